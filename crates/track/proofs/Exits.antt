@@ -1,0 +1,162 @@
+-- What each definition comes to on each way out of the function that computes it; the callees' results are variables.
+use Prim.Native.Nat.{ℕ, zero, suc, _+_, _-_, _*_, _/_, _%_, _≤_, _<_, max, min}
+use mathlib.Core.Path.{_≡_, refl, sym, _∙_, ap, ap₂}
+use mathlib.Core.Bool.{Bool, true, false, and-false}
+use native.Mathlib.Nat.{one-mul}
+use native.Mathlib.Omega.{arith}
+use lib.Dec.{eqb, leb}
+use borrow.Author.Tests.{eq-eqb, ne-eqb, le-leb, lt-leb}
+use Rattle.track.specs.declared.Track.{Track}
+use Rattle.track.specs.declared.Coordinate.{Coordinate}
+use Rattle.track.specs.declared.number.Natural.{Natural}
+use Rattle.track.specs.declared.number.Natural.the-variants as natural
+use Rattle.track.specs.declared.number.Place.{Place}
+use Rattle.track.specs.declared.number.Place.the-variants as found
+use Rattle.track.specs.declared.setup.Change.{Change}
+use Rattle.track.specs.declared.setup.Changed.{Changed}
+use Rattle.track.specs.Rule.{STOPPED, PAUSED, WAITING, clockEnd, Valid, home, far, moved, rewound, stopped, entered}
+use Rattle.track.specs.Walk.{arrival, passesAt, stops, visited, step}
+use Rattle.track.specs.Leap.{span, phase, place, next, leap, ahead, stepsTo, stopStep, running}
+use Rattle.track.specs.Number.{onNatural, onPlace}
+use Rattle.track.specs.Setup.{refused, settled, permits, setBy, changedBy}
+use Rattle.track.proofs.Leaps.{leap-zero}
+
+module _ (t : Track) where
+  -- rewound, entered
+  pub rewound-is : {h : ℕ} {r : Track} → h ≡ home t → r ≡ moved t (t .mode) h 0 true → r ≡ rewound t
+  rewound-is e q = q ∙ ap (λ (h : ℕ). moved t (t .mode) h 0 true) e
+
+  pub stopped-is : {m h : ℕ} {r : Track} → m ≡ STOPPED → h ≡ home t → r ≡ moved t m h 0 true → r ≡ stopped t
+  stopped-is em e q = q ∙ ap₂ (λ (m h : ℕ). moved t m h 0 true) em e
+
+  pub entered-stops : {m : ℕ} {r : Track} → m ≡ STOPPED → r ≡ stopped t → r ≡ entered t m
+  unfolding entered
+  entered-stops e q = q ∙ simp (eq-eqb _ _ e)
+
+  pub entered-stays : {m : ℕ} {r : Track} → (m ≡ STOPPED → ⊥) → r ≡ moved t m (t .position .0) (t .passes .0) (t .due) → r ≡ entered t m
+  unfolding entered
+  entered-stays n q = q ∙ simp (ne-eqb _ _ n)
+
+  -- passes
+  pub passes-far : {l f : ℕ} → f ≡ far t → l ≡ f → t .passes .0 + 1 ≡ passesAt t l
+  unfolding passesAt
+  passes-far {l} e h = simp (eq-eqb l (far t) (h ∙ e))
+
+  pub passes-near : {l f : ℕ} → f ≡ far t → (l ≡ f → ⊥) → t .passes .0 ≡ passesAt t l
+  unfolding passesAt
+  passes-near {l} e h = simp (ne-eqb l (far t) (λ k. h (k ∙ sym e)))
+
+  -- stops
+  pub stops-near : {l f : ℕ} → l ≡ arrival t → f ≡ far t → (l ≡ f → ⊥) → false ≡ stops t
+  unfolding stops
+  stops-near a e h = simp (ne-eqb (arrival t) (far t) (λ k. h (a ∙ k ∙ sym e)))
+
+  pub stops-repeat : t .repeat ≡ true → false ≡ stops t
+  unfolding stops
+  stops-repeat r = simp (r, and-false)
+
+  pub stops-last : {l f k : ℕ} → l ≡ arrival t → f ≡ far t → k ≡ passesAt t l → l ≡ f → t .repeat ≡ false → leb (t .loops) k ≡ stops t
+  unfolding stops
+  stops-last a e p h r = simp (eq-eqb (arrival t) (far t) (sym a ∙ h ∙ e), r, p, a)
+
+  -- step
+  pub step-stops : (w : Bool) {b : Bool} {r : Track} → b ≡ stops t → b ≡ true → r ≡ stopped t → r ≡ step t w
+  unfolding step
+  step-stops w s h e = simp (← s, h) e
+
+  module _ (w : Bool) {b : Bool} {r : Track} {l k : ℕ} (s : b ≡ stops t) (h : b ≡ false) (a : l ≡ arrival t) (p : k ≡ passesAt t l) where
+    pub step-waits : w ≡ true → r ≡ moved t WAITING l k false → r ≡ step t w
+    unfolding step visited
+    step-waits ew e = simp (← s, h, ew, ← a, ← p) e
+
+    pub step-plays : w ≡ false → r ≡ moved t (t .mode) l k false → r ≡ step t w
+    unfolding step visited
+    step-plays ew e = simp (← s, h, ew, ← a, ← p) e
+
+  -- phase, place
+  pub phase-back : (l : ℕ) → t .backward ≡ true → t .end .0 - l ≡ phase t l
+  phase-back l b = simp b
+
+  pub phase-fore : (l : ℕ) → t .backward ≡ false → l - t .start .0 ≡ phase t l
+  phase-fore l b = simp b
+
+  pub place-back : (k : ℕ) → t .backward ≡ true → t .end .0 - k ≡ place t k
+  place-back k b = simp b
+
+  pub place-fore : (k : ℕ) → t .backward ≡ false → t .start .0 + k ≡ place t k
+  place-fore k b = simp b
+
+  -- leap
+  pub leap-none : Valid t → {n : ℕ} → n ≡ 0 → t ≡ leap t n
+  leap-none v e = sym (leap-zero t v) ∙ ap (leap t) (sym e)
+
+  pub leap-some : (n : ℕ) {s c l : ℕ} {r : Track} → s ≡ span t → c ≡ next t → (n ≡ 0 → ⊥) → l ≡ place t ((c + (n - 1)) % s) →
+      r ≡ moved t (t .mode) l (t .passes .0 + (c + n) / s) false → r ≡ leap t n
+  unfolding leap
+  leap-some zero es ec h el er = absurd (h refl)
+  leap-some (suc n) es ec h el er = let back : suc n - 1 ≡ n = omega arith in er ∙ simp (el, back, es, ec)
+
+  -- stepsTo
+  pub steps-up : (l : ℕ) {c f : ℕ} → c ≡ next t → f ≡ phase t l → c ≤ f → f - c ≡ stepsTo t l
+  unfolding stepsTo
+  steps-up l {c} {f} ec ef h = simp (← ec, ← ef, le-leb c f h)
+
+  pub steps-round : (l : ℕ) {c f s : ℕ} → c ≡ next t → f ≡ phase t l → s ≡ span t → f < c → f + s - c ≡ stepsTo t l
+  unfolding stepsTo
+  steps-round l {c} {f} ec ef es h = simp (← ec, ← ef, lt-leb c f h, es)
+
+  -- stopStep, running
+  pub stop-later : {c s : ℕ} → c ≡ next t → s ≡ span t → t .passes .0 < t .loops → (t .loops - t .passes .0) * s - c ≡ stopStep t
+  unfolding stopStep
+  stop-later ec es h =
+      let k : max 1 (t .loops - t .passes .0) ≡ t .loops - t .passes .0 = omega arith in
+      simp (k, ec, es)
+
+  pub stop-first : {c s : ℕ} → c ≡ next t → s ≡ span t → t .loops ≤ t .passes .0 → s - c ≡ stopStep t
+  unfolding stopStep
+  stop-first ec es h =
+      let k : max 1 (t .loops - t .passes .0) ≡ 1 = omega arith in
+      simp (k, ec, es, one-mul)
+
+  pub runs-ever : t .repeat ≡ true → clockEnd ≡ running t
+  unfolding running
+  runs-ever r = simp r
+
+  pub runs-long : {s : ℕ} → t .repeat ≡ false → s ≡ stopStep t → clockEnd < s - 1 → clockEnd ≡ running t
+  unfolding running
+  runs-long r e h = simp r (omega arith)
+
+  pub runs-short : {s : ℕ} → t .repeat ≡ false → s ≡ stopStep t → s - 1 ≤ clockEnd → s - 1 ≡ running t
+  unfolding running
+  runs-short r e h = simp r (omega arith)
+
+-- ---- set-up changes: a number that is outside its range, and one within
+pub settled-stopped : {m : ℕ} → m ≡ STOPPED → true ≡ settled m
+unfolding settled
+settled-stopped e = simp (eq-eqb _ _ e)
+
+pub settled-else : {m : ℕ} → (m ≡ STOPPED → ⊥) → eqb m PAUSED ≡ settled m
+unfolding settled
+settled-else n = simp (ne-eqb _ _ n)
+
+-- what a number or a position comes to, outside its range and within
+pub natural-out : {A : Type 0} (n : Natural) (f : ℕ → A) (x : A) {r : A} → n ≡ natural.Outside → r ≡ x → r ≡ onNatural n f x
+natural-out n f x e q = q ∙ simp e
+
+pub natural-take : {A : Type 0} (n : Natural) (f : ℕ → A) (x : A) {k : ℕ} {r : A} → n ≡ natural.In k → r ≡ f k → r ≡ onNatural n f x
+natural-take n f x e q = q ∙ simp e
+
+pub place-out : {A : Type 0} (p : Place) (f : Coordinate → A) (x : A) {r : A} → p ≡ found.Outside → r ≡ x → r ≡ onPlace p f x
+place-out p f x e q = q ∙ simp e
+
+pub place-take : {A : Type 0} (p : Place) (f : Coordinate → A) (x : A) {c : Coordinate} {r : A} → p ≡ found.At c → r ≡ f c → r ≡ onPlace p f x
+place-take p f x e q = q ∙ simp e
+
+module _ (t : Track) (c : Change) {b : Bool} (e : b ≡ permits c (t .mode)) where
+  pub changed-not : b ≡ false → {r : Changed} → r ≡ refused 2 t → r ≡ changedBy t c
+  unfolding changedBy
+  changed-not h q = q ∙ simp (← e, h)
+
+  pub changed-by : b ≡ true → {r : Changed} {d : Change} → c ≡ d → r ≡ setBy t d → r ≡ changedBy t c
+  unfolding changedBy
+  changed-by h k q = q ∙ ap (setBy t) (sym k) ∙ simp (← e, h)

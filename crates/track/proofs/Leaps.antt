@@ -1,0 +1,209 @@
+-- The laws of the leap: n steps at once are n single steps.
+use Prim.Native.Nat.{ℕ, zero, suc, _+_, _-_, _*_, _/_, _%_, _≤_, _<_, max, min}
+use mathlib.Core.Path.{_≡_, refl, sym, _∙_, ap, ap₂}
+use mathlib.Core.Bool.{Bool, true, false, cond, not, _&&_}
+use native.Mathlib.Nat.{add-zero, add-mod-right, div-lt-iff-lt-mul, mul-le-mul-left, mod-lt, mod-eq-of-lt, div-eq-of-lt}
+use native.Mathlib.Omega.{arith}
+use lib.Dec.{eqb, leb}
+use borrow.Author.Tests.{eqb-true, eq-eqb, lt-leb, le-leb, leb-false}
+use Rattle.track.specs.declared.Track.{Track}
+use Rattle.track.specs.Rule.{clockEnd, Valid, far, moved}
+use Rattle.track.specs.Walk.{arrival, passesAt, stops, visited, step}
+use Rattle.track.specs.Leap.{span, phase, place, next, leap, walk, stopStep, running, stepsTo}
+use Rattle.track.proofs.Tests.{cond-cases, eqb-same}
+use Rattle.track.proofs.Cycle.{last-div, rounds-open, rounds-over, rounds-last, ahead-is, ahead-first}
+use Rattle.track.proofs.Arrivals.{next-small, place-next, passes-next, next-visited, place-inside, moved-valid}
+
+module _ (t : Track) (v : Valid t) where
+  -- a leap keeps the track valid
+  pub leap-valid : (n : ℕ) → Valid (leap t n)
+  unfolding leap
+  leap-valid zero = moved-valid t v _ _ _ _ (v .mode) (omega arith)
+  leap-valid (suc n) = moved-valid t v _ _ _ _ (v .mode) (place-inside t v _ (mod-lt _ (omega arith)))
+
+  -- where the step after a leap arrives
+  pub leap-next : (n : ℕ) → next (leap t n) ≡ (next t + n) % span t
+  unfolding leap next arrival
+  leap-next zero = sym (mod-eq-of-lt (next-small t v)) ∙ ap (λ (x : ℕ). x % span t) (sym (add-zero (next t)))
+  leap-next (suc n) =
+      next-visited (leap t (suc n)) (leap-valid (suc n)) (next t + n) refl refl ∙ ap (λ (x : ℕ). x % span t) (omega arith)
+
+  pub leap-arrival : (n : ℕ) → arrival (leap t n) ≡ place t ((next t + n) % span t)
+  unfolding leap
+  leap-arrival n = sym (place-next (leap t n) (leap-valid n)) ∙ ap (place t) (leap-next n)
+
+  -- the passes that the step after a leap leaves
+  pub leap-passesAt : (n : ℕ) → passesAt (leap t n) (arrival (leap t n)) ≡ t .passes .0 + (next t + n + 1) / span t
+  unfolding leap
+  leap-passesAt n = passes-next (leap t n) (leap-valid n) (t .passes .0) (next t + n) (leap-next n) refl
+
+  -- no step at all
+  pub leap-zero : leap t 0 ≡ t
+  unfolding leap
+  leap-zero =
+      ap (λ (k : ℕ). moved t (t .mode) (t .position .0) k (t .due))
+      (omega (arith, div-eq-of-lt (next-small t v), ap (λ (x : ℕ). x / span t) (add-zero (next t))))
+
+  -- one step more
+  pub leap-suc : (n : ℕ) → leap t (suc n) ≡ visited (leap t n) (t .mode)
+  unfolding leap visited
+  leap-suc n =
+      ap₂ (λ (l k : ℕ). moved t (t .mode) l k false) (sym (leap-arrival n))
+      (ap (λ (x : ℕ). t .passes .0 + x / span t) (omega arith) ∙ sym (leap-passesAt n))
+
+-- two leaps are one
+pub leap-add : (t : Track) → Valid t → (a b : ℕ) → leap (leap t a) b ≡ leap t (a + b)
+unfolding leap
+leap-add t v a zero = leap-zero (leap t a) (leap-valid t v a) ∙ ap (leap t) (sym (add-zero a))
+leap-add t v a (suc b) =
+    leap-suc (leap t a) (leap-valid t v a) b
+    ∙ ap (λ (u : Track). visited u (t .mode)) (leap-add t v a b)
+    ∙ sym (leap-suc t v (a + b))
+    ∙ ap (leap t) (omega arith)
+
+module _ (t : Track) (v : Valid t) where
+  -- the step after a leap is at far exactly at the last distance
+  leap-far : (n : ℕ) → eqb (arrival (leap t n)) (far t) ≡ eqb ((next t + n) % span t + 1) (span t)
+  leap-far n = ap (λ (l : ℕ). eqb l (far t)) (leap-arrival t v n) ∙ go (t .backward) refl
+    where
+      small : (next t + n) % span t < span t
+      small = mod-lt (next t + n) (omega arith)
+
+      go : (b : Bool) → t .backward ≡ b → eqb (place t ((next t + n) % span t)) (far t) ≡ eqb ((next t + n) % span t + 1) (span t)
+      go true eb =
+          simp eb
+          (eqb-same (t .end .0 - (next t + n) % span t) (t .start .0) ((next t + n) % span t + 1) (span t) (λ h. omega (arith, small))
+          (λ h. omega (arith, small)))
+      go false eb =
+          simp eb
+          (eqb-same (t .start .0 + (next t + n) % span t) (t .end .0) ((next t + n) % span t + 1) (span t) (λ h. omega (arith, small))
+          (λ h. omega (arith, small)))
+
+  -- when the step after a leap stops the track
+  stops-leap : (n : ℕ) → stops (leap t n)
+      ≡ (eqb ((next t + n) % span t + 1) (span t) && not (t .repeat) && leb (t .loops) (t .passes .0 + (next t + n + 1) / span t))
+  unfolding stops leap
+  stops-leap n = ap₂ (λ (f : Bool) (k : ℕ). f && not (t .repeat) && leb (t .loops) k) (leap-far n) (leap-passesAt t v n)
+
+  -- no step before the stopping one stops the track, and none at all with repeat on
+  pub leap-runs : (n : ℕ) → (t .repeat ≡ false → suc n < stopStep t) → stops (leap t n) ≡ false
+  unfolding stopStep
+  leap-runs n h = stops-leap n ∙ go (t .repeat) (eqb ((next t + n) % span t + 1) (span t)) refl refl
+    where
+      go : (r f : Bool) → t .repeat ≡ r → eqb ((next t + n) % span t + 1) (span t) ≡ f →
+          (f && not r && leb (t .loops) (t .passes .0 + (next t + n + 1) / span t)) ≡ false
+      go true true er ef = refl
+      go true false er ef = refl
+      go false false er ef = refl
+      go false true er ef =
+          lt-leb (t .loops) (t .passes .0 + (next t + n + 1) / span t)
+          (omega (
+            arith,
+            rounds-open (next t) n (max 1 (t .loops - t .passes .0)) (span t) (h er) (omega arith),
+            last-div (next t + n) (eqb-true _ _ ef),
+          ))
+
+  -- the stopping step stops it
+  pub leap-stops : (n : ℕ) → t .repeat ≡ false → suc n ≡ stopStep t → stops (leap t n) ≡ true
+  unfolding stopStep
+  leap-stops n er h =
+      stops-leap n
+      ∙ simp (eq-eqb _ _ (rounds-last (next t) n (max 1 (t .loops - t .passes .0)) (span t) h (omega arith)), er)
+      (le-leb (t .loops) (t .passes .0 + (next t + n + 1) / span t)
+      (omega (arith, rounds-over (next t) n (max 1 (t .loops - t .passes .0)) (span t) h (omega arith))))
+
+  -- a step before the stopping one that finds no wait flag leaps one further
+  pub leap-step : (n : ℕ) → (t .repeat ≡ false → suc n < stopStep t) → step (leap t n) false ≡ leap t (suc n)
+  unfolding step leap
+  leap-step n h = simp (leap-runs n h) (sym (leap-suc t v n))
+
+  -- the stopping step is at least the first
+  pub stop-later : 0 < stopStep t
+  unfolding stopStep
+  stop-later =
+      omega (arith, next-small t v, mul-le-mul-left {m = 1} {n = max 1 (t .loops - t .passes .0)} (span t) (omega arith))
+
+  module _ (l : ℕ) (above : t .start .0 ≤ l) (below : l ≤ t .end .0) where
+    pub phase-small : phase t l < span t
+    phase-small = cond-cases (λ (k : ℕ). k < span t) (t .backward) (λ _. omega arith) (λ _. omega arith)
+
+    pub place-phase : place t (phase t l) ≡ l
+    place-phase = go (t .backward) refl
+      where
+        go : (b : Bool) → t .backward ≡ b → place t (phase t l) ≡ l
+        go true eb = simp eb (omega arith)
+        go false eb = simp eb (omega arith)
+
+    pub phase-of : (k : ℕ) → k < span t → place t k ≡ l → k ≡ phase t l
+    phase-of k h e = go (t .backward) refl
+      where
+        go : (b : Bool) → t .backward ≡ b → k ≡ phase t l
+        go true eb = simp eb (omega (arith, simp eb at e))
+        go false eb = simp eb (omega (arith, simp eb at e))
+
+    -- after so many steps the next one arrives at l
+    pub first-arrival : arrival (leap t (stepsTo t l)) ≡ l
+    unfolding stepsTo
+    first-arrival =
+        leap-arrival t v (stepsTo t l)
+        ∙ ap (place t) (ahead-is (next t) (phase t l) (span t) (next-small t v) phase-small)
+        ∙ place-phase
+
+    -- and none before does
+    pub none-before : (j : ℕ) → j < stepsTo t l → arrival (leap t j) ≡ l → ⊥
+    unfolding stepsTo
+    none-before j h e =
+        ahead-first (next t) (phase t l) (span t) (next-small t v) phase-small j h
+        (phase-of ((next t + j) % span t) (mod-lt _ (omega arith)) (sym (leap-arrival t v j) ∙ e))
+
+    -- it is reached within one round
+    pub steps-small : stepsTo t l < span t
+    unfolding stepsTo
+    steps-small =
+        cond-cases (λ (d : ℕ). d < span t) (leb (next t) (phase t l)) (λ _. omega (arith, phase-small))
+        (λ h. omega (arith, phase-small, next-small t v, leb-false (next t) (phase t l) h))
+
+  -- a round later the arrivals repeat
+  pub arrival-round : (n : ℕ) → arrival (leap t (n + span t)) ≡ arrival (leap t n)
+  arrival-round n =
+      leap-arrival t v (n + span t)
+      ∙ ap (place t) (ap (λ (x : ℕ). x % span t) (omega arith) ∙ add-mod-right (next t + n) (span t))
+      ∙ sym (leap-arrival t v n)
+
+-- n single steps that find no wait flag and do not stop the track are one leap
+pub leap-walk : (wait : ℕ → Bool) (t : Track) → Valid t → (n : ℕ) → (t .repeat ≡ false → n < stopStep t) →
+    ((j : ℕ) → j < n → wait (arrival (leap t j)) ≡ false) → walk wait t n ≡ leap t n
+unfolding walk
+leap-walk wait t v zero h q = sym (leap-zero t v)
+leap-walk wait t v (suc n) h q =
+    ap (λ (u : Track). step u (wait (arrival u))) (leap-walk wait t v n (λ r. omega (arith, h r)) (λ j l. q j (omega arith)))
+    ∙ ap (step (leap t n)) (q n (omega arith))
+    ∙ leap-step t v n h
+
+module _ (t : Track) (v : Valid t) where
+  -- passes grow by at most one a step, so that they stay below the clock
+  pub leap-passes : (n : ℕ) → leap t n .passes .0 ≤ t .passes .0 + n
+  unfolding leap
+  leap-passes n =
+      omega (
+        arith,
+        div-lt-iff-lt-mul {k = span t} {x = next t + n} {y = n + 1} (omega arith) .1
+            (omega (arith, next-small t v, mul-le-mul-left {m = 1} {n = span t} n (omega arith))),
+      )
+
+  -- `running` is short of the stopping step, and just short of it unless it is the clock's end
+  pub running-small : running t ≤ clockEnd
+  unfolding running
+  running-small = cond-cases (λ (k : ℕ). k ≤ clockEnd) (t .repeat) (λ _. omega arith) (λ _. omega arith)
+
+  pub running-before : t .repeat ≡ false → running t < stopStep t
+  unfolding running
+  running-before r = simp r (omega (arith, stop-later t v))
+
+  pub running-exact : running t < clockEnd → (t .repeat ≡ false) × (suc (running t) ≡ stopStep t)
+  unfolding running
+  running-exact = go (t .repeat) refl
+    where
+      go : (r : Bool) → t .repeat ≡ r → running t < clockEnd → (t .repeat ≡ false) × (suc (running t) ≡ stopStep t)
+      go true er h = absurd (omega (arith, simp er at h))
+      go false er h = (er, simp er (omega (arith, simp er at h, stop-later t v)))

@@ -1,0 +1,11 @@
+pub mod Tests
+pub mod Checks
+mod Signs
+pub mod Numbers
+mod Cycle
+pub mod Arrivals
+pub mod Leaps
+pub mod Modes
+pub mod Setups
+mod Exits
+pub mod Cards

@@ -1,0 +1,66 @@
+use Rattle.track.proofs.Exits.{natural-out, natural-take}
+use Rattle.track.proofs.Numbers.{told}
+use Rattle.track.proofs.Track.set_direction.Statement.{statement}
+use Rattle.track.proofs.Track.set_direction.Tie as tie
+use Rattle.track.specs.Number.{naturalOf}
+use Rattle.track.specs.Setup.{accepted, directionSet}
+use Rattle.track.specs.declared.number.Natural.{Natural}
+use borrow.Author.Needs.{needs}
+use borrow.Author.Tests.{eq-eqb, ne-eqb}
+use lib.IntN.{ℤ}
+use mathlib.Core.Path.{_∙_, ap}
+
+abbrev at : ℤ → Natural
+at z = naturalOf z 0 1
+
+in-range-requires : tie.Need-in-range-requires
+in-range-requires c κs = search needs
+
+enum-known-k : tie.Need-enum-known-k
+enum-known-k c = search needs
+
+enum-told : tie.Need-enum-told
+enum-told c = search needs
+
+refused-requires : tie.Need-refused-requires
+refused-requires c κs = search needs
+
+returns : tie.Need-returns
+unfolding directionSet
+returns c = natural-out _ _ _ (told at (c .before .before .before .before .fits .d) (c .before .before .before .in-range .ensures) (c .before .enum-told .given .1)) (c .refused .ensures)
+
+rewound-requires : tie.Need-rewound-requires
+rewound-requires c κs = search needs
+
+accepted-requires : tie.Need-accepted-requires
+accepted-requires c κs = search needs
+
+returns-2 : tie.Need-returns-2
+unfolding directionSet
+returns-2 c =
+    natural-take _ _ _ (told at (c .before .before .before .before .before .before .before .fits .d) (c .before .before .before .before .before .before .in-range .ensures) (c .before .before .before .before .k .given .1))
+    (c .accepted .ensures ∙ ap accepted (c .before .rewound .ensures) ∙ simp (eq-eqb _ _ (c .before .before .if1 .taken)))
+
+accepted-requires-2 : tie.Need-accepted-requires-2
+accepted-requires-2 c κs = search needs
+
+returns-3 : tie.Need-returns-3
+unfolding directionSet
+returns-3 c =
+    natural-take _ _ _ (told at (c .before .before .before .before .before .before .fits .d) (c .before .before .before .before .before .in-range .ensures) (c .before .before .before .k .given .1))
+    (c .accepted2 .ensures ∙ simp (ne-eqb _ _ (c .before .if1 .left)))
+
+pub set-direction-spec : {M : Type 1} → statement M
+set-direction-spec =
+    tie.close
+    (tie.spec
+    in-range-requires
+    enum-known-k
+    enum-told
+    refused-requires
+    returns
+    rewound-requires
+    accepted-requires
+    returns-2
+    accepted-requires-2
+    returns-3)

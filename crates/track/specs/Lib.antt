@@ -1,0 +1,6 @@
+pub mod Number
+pub mod Rule
+pub mod Grid
+pub mod Walk
+pub mod Leap
+pub mod Setup

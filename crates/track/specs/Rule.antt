@@ -1,0 +1,157 @@
+-- A track's state and rules (01, "Track").
+use Prim.Native.Nat.{ℕ, _+_, _*_, _≤_, _<_}
+use mathlib.Core.Bool.{Bool, cond, true, false, _&&_}
+use mathlib.Core.Path.{_≡_}
+use mathlib.Core.List.{List, [], _∷_}
+use lib.ListN.{replicate, getD}
+use lib.Dec.{ltb, leb, eqb}
+use Rattle.track.specs.declared.Track.{Track}
+use Rattle.track.specs.declared.Coordinate.{Coordinate}
+use Rattle.track.specs.declared.Ticks.{Ticks}
+
+-- 0 STOPPED, 1 PLAYING, 2 PAUSED, 3 WAITING
+abbrev pub STOPPED : ℕ
+STOPPED = 0
+
+abbrev pub PLAYING : ℕ
+PLAYING = 1
+
+abbrev pub PAUSED : ℕ
+PAUSED = 2
+
+abbrev pub WAITING : ℕ
+WAITING = 3
+
+-- the coordinate of the position 1,000,000
+abbrev pub coordinateLast : ℕ
+coordinateLast = 2000000
+
+-- the clock runs from 0 to 1,000,000,000
+abbrev pub clockEnd : ℕ
+clockEnd = 1000000000
+
+-- A new track: start = min, end = max, forward, repeat off, loops 1, all actions 0, STOPPED, rewound.
+unfoldable pub newTrack : Coordinate → Coordinate → Track
+newTrack a b =
+    record {
+      min = a;
+      max = b;
+      start = a;
+      end = b;
+      position = a;
+      passes = record { 0 = 0 };
+      loops = 1;
+      mode = STOPPED;
+      backward = false;
+      repeat = false;
+      due = true;
+      actions = replicate 16 0;
+    }
+
+-- The home position is start when forward, end when backward; the far position is the other.
+abbrev pub home : Track → ℕ
+home t = cond (t .backward) (t .end .0) (t .start .0)
+
+abbrev pub far : Track → ℕ
+far t = cond (t .backward) (t .start .0) (t .end .0)
+
+-- the track in another mode, at another position, with other passes, due or visited
+abbrev pub moved : Track → ℕ → ℕ → ℕ → Bool → Track
+moved t mode position passes due =
+    record {
+      min = t .min;
+      max = t .max;
+      start = t .start;
+      end = t .end;
+      position = record { 0 = position };
+      passes = record { 0 = passes };
+      loops = t .loops;
+      mode = mode;
+      backward = t .backward;
+      repeat = t .repeat;
+      due = due;
+      actions = t .actions;
+    }
+
+-- rewound: position home, due set, passes 0
+abbrev pub rewound : Track → Track
+rewound t = moved t (t .mode) (home t) 0 true
+
+-- STOPPED and rewound
+abbrev pub stopped : Track → Track
+stopped t = moved t STOPPED (home t) 0 true
+
+-- the track that a call or a command takes to a mode: stop rewinds, from STOPPED also
+unfoldable pub entered : Track → ℕ → Track
+entered t mode = cond (eqb mode STOPPED) (stopped t) (moved t mode (t .position .0) (t .passes .0) (t .due))
+
+-- the action cell of an ordered pair of modes
+abbrev pub actionCell : Track → ℕ → ℕ → ℕ
+actionCell t from to = getD (t .actions) (from * 4 + to) 0
+
+-- Bounds min < max, each from -1,000,000 to 1,000,000; min ≤ start < end ≤ max; a position from start to end.
+pub record Ordered (min max start end position : ℕ) : Type 0 where
+  pub bounds : min < max
+  pub last : max ≤ coordinateLast
+  pub low : min ≤ start
+  pub span : start < end
+  pub high : end ≤ max
+  pub above : start ≤ position
+  pub below : position ≤ end
+
+-- An action is always 0 between equal modes.
+pub record Diagonal (cells : List ℕ) : Type 0 where
+  pub stopped : getD cells 0 0 ≡ 0
+  pub playing : getD cells 5 0 ≡ 0
+  pub paused : getD cells 10 0 ≡ 0
+  pub waiting : getD cells 15 0 ≡ 0
+
+-- Every range and rule of a track by itself. That loops are at most 65,535 and events at most 255 their types say.
+pub record Valid (t : Track) : Type 0 where
+  pub ordered : Ordered (t .min .0) (t .max .0) (t .start .0) (t .end .0) (t .position .0)
+  pub loops : 1 ≤ t .loops
+  pub mode : t .mode ≤ WAITING
+  pub diagonal : Diagonal (t .actions)
+
+-- A pass count, never above the board's clock.
+pub record Sound (t : Track) (clock : Ticks) : Type 0 where
+  pub valid : Valid t
+  pub passes : t .passes .0 ≤ clock .0
+
+-- The same rules as tests.
+unfoldable pub every : List Bool → Bool
+every [] = true
+every (b ∷ bs) = b && every bs
+
+unfoldable pub orderedTest : ℕ → ℕ → ℕ → ℕ → ℕ → Bool
+orderedTest min max start end position =
+    every
+    (ltb min max
+    ∷ leb max coordinateLast
+    ∷ leb min start
+    ∷ ltb start end
+    ∷ leb end max
+    ∷ leb start position
+    ∷ leb position end
+    ∷ [])
+
+unfoldable pub diagonalTest : List ℕ → Bool
+diagonalTest cells =
+    every
+    (eqb (getD cells 0 0) 0
+    ∷ eqb (getD cells 5 0) 0
+    ∷ eqb (getD cells 10 0) 0
+    ∷ eqb (getD cells 15 0) 0
+    ∷ [])
+
+unfoldable pub validTest : Track → Bool
+validTest t =
+    every
+    (orderedTest (t .min .0) (t .max .0) (t .start .0) (t .end .0) (t .position .0)
+    ∷ leb 1 (t .loops)
+    ∷ leb (t .mode) WAITING
+    ∷ diagonalTest (t .actions)
+    ∷ [])
+
+unfoldable pub soundTest : Track → Ticks → Bool
+soundTest t clock = validTest t && leb (t .passes .0) (clock .0)

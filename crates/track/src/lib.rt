@@ -1,0 +1,151 @@
+// A track: PREMO's synchronizable object (000, section 2; 001, section 4.1) with a span, a walk, a mode
+// grid and sixteen action cells. It knows nothing of boards.
+ghost use mathlib.Core.Path.{_≡_};
+ghost use Rattle.track.specs.Rule.{newTrack, home, far, moved, rewound, stopped, entered, actionCell};
+ghost use Prim.Native.Nat.{_≤_};
+
+mod check;
+pub mod grid;
+mod leap;
+pub mod number;
+pub mod setup;
+mod walk;
+
+// A position of 01, PREMO's coordinate C, kept as position + 1,000,000 so that it has no sign inside.
+#[repr(C)]
+pub struct Coordinate(pub u32);
+
+// Ticks of the board's clock, PREMO's Time.
+#[repr(C)]
+pub struct Ticks(pub u32);
+
+// Arrivals at the far position, PREMO's visit number.
+#[repr(C)]
+pub struct Passes(pub u32);
+
+#[repr(C)]
+pub struct Track {
+    pub min: Coordinate,
+    pub max: Coordinate,
+    pub start: Coordinate,
+    pub end: Coordinate,
+    pub position: Coordinate,
+    pub passes: Passes,
+    pub loops: u16,
+    pub mode: u8,
+    pub backward: bool,
+    pub repeat: bool,
+    // The position is not yet visited.
+    pub due: bool,
+    // The event of a change from mode a to mode b stands at a * 4 + b; 0 means none.
+    pub actions: [u8; Track::CELLS],
+}
+
+impl Coordinate {
+    // What a coordinate is above its position.
+    pub const BIAS: i64 = 1000000;
+
+    // The coordinate of position 1,000,000, the last one.
+    pub const LAST: u32 = 2000000;
+}
+
+impl Ticks {
+    // The clock's end.
+    pub const END: u32 = 1000000000;
+}
+
+impl Track {
+    pub const STOPPED: u8 = 0;
+
+    pub const PLAYING: u8 = 1;
+
+    pub const PAUSED: u8 = 2;
+
+    pub const WAITING: u8 = 3;
+
+    pub const CELLS: usize = 16;
+
+    pub const LOOPS: u32 = 65535;
+
+    pub const EVENT: u32 = 255;
+
+    // A new track: start = min, end = max, forward, repeat off, loops 1, all actions 0, STOPPED, rewound.
+    pub fn new(min: Coordinate, max: Coordinate) -> Self
+        ensures { λ r. ⌜ r ≡ newTrack min max ⌝ }
+    {
+        Track {
+            min,
+            max,
+            start: min,
+            end: max,
+            position: min,
+            passes: Passes(0),
+            loops: 1,
+            mode: Track::STOPPED,
+            backward: false,
+            repeat: false,
+            due: true,
+            actions: [0u8; Track::CELLS],
+        }
+    }
+
+    // The home position: start when forward, end when backward.
+    pub fn home(self) -> Coordinate
+        ensures { λ r. ⌜ r .0 ≡ home self ⌝ }
+    {
+        if self.backward {
+            Coordinate(self.end.0)
+        } else {
+            Coordinate(self.start.0)
+        }
+    }
+
+    // The far position: the other.
+    pub fn far(self) -> Coordinate
+        ensures { λ r. ⌜ r .0 ≡ far self ⌝ }
+    {
+        if self.backward {
+            Coordinate(self.start.0)
+        } else {
+            Coordinate(self.end.0)
+        }
+    }
+
+    // The track in another mode, at another position, with other passes, due or visited.
+    fn moved(mut self, mode: u8, position: Coordinate, passes: Passes, due: bool) -> Track
+        ensures { λ r. ⌜ r ≡ moved self mode (position .0) (passes .0) due ⌝ }
+    {
+        self.mode = mode;
+        self.position = position;
+        self.passes = passes;
+        self.due = due;
+        self
+    }
+
+    // Rewound: position home, due set, passes 0.
+    fn rewound(self) -> Track
+        ensures { λ r. ⌜ r ≡ rewound self ⌝ }
+    {
+        self.moved(self.mode, self.home(), Passes(0), true)
+    }
+
+    // The track as a call or a command that goes to this mode leaves it: STOPPED rewinds.
+    pub fn entered(self, mode: u8) -> Track
+        ensures { λ r. ⌜ r ≡ entered self mode ⌝ }
+    {
+        if mode == Track::STOPPED {
+            return self.moved(mode, self.home(), Passes(0), true);
+        }
+        self.moved(mode, self.position, self.passes, self.due)
+    }
+
+    // The event of a change of mode, 0 for none.
+    pub fn action(self, from: u8, to: u8) -> u8
+        requires { ⌜ (from ≤ 3) × (to ≤ 3) ⌝ }
+        ensures { λ r. ⌜ r ≡ actionCell self from to ⌝ }
+    {
+        let cells = self.actions;
+        let at = (from * 4 + to) as usize;
+        cells[at]
+    }
+}

@@ -1,0 +1,208 @@
+// The set-up changes of a track, as far as the track alone decides them.
+use crate::Coordinate;
+use crate::Track;
+use crate::number::Natural;
+use crate::number::Place;
+use crate::number::in_range;
+ghost use mathlib.Core.Path.{_≡_};
+ghost use Rattle.track.specs.Rule.{Valid};
+ghost use Rattle.track.specs.Setup.{refused, accepted, settled, permits, startSet, endSet, loopsSet, repeatSet, directionSet, actionSet, jumpTo, changedBy};
+
+// A set-up change with the numbers of its call.
+pub enum Change {
+    Start(i64),
+    End(i64),
+    Loops(i64),
+    Repeat(i64),
+    Direction(i64),
+    // From, to, event.
+    Action(i64, i64, i64),
+    Jump(i64),
+}
+
+// What a call answers: accepted, or refused with 01's number.
+pub enum Answer {
+    Accepted,
+    Refused(u8),
+}
+
+impl Answer {
+    // Mode does not allow the call.
+    pub const MODE: u8 = 2;
+
+    // A value outside its stated range or rule.
+    pub const VALUE: u8 = 3;
+}
+
+// The answer to a change, and the track after it.
+pub struct Changed {
+    pub answer: Answer,
+    pub track: Track,
+}
+
+fn refused(number: u8, track: Track) -> Changed
+    ensures { λ r. ⌜ r ≡ refused number track ⌝ }
+{
+    Changed {
+        answer: Answer::Refused(number),
+        track,
+    }
+}
+
+fn accepted(track: Track) -> Changed
+    ensures { λ r. ⌜ r ≡ accepted track ⌝ }
+{
+    Changed {
+        answer: Answer::Accepted,
+        track,
+    }
+}
+
+// STOPPED or PAUSED.
+pub fn settled(mode: u8) -> bool
+    ensures { λ r. ⌜ r ≡ settled mode ⌝ }
+{
+    if mode == Track::STOPPED {
+        return true;
+    }
+    mode == Track::PAUSED
+}
+
+// Whether a mode allows a change.
+fn permits(change: Change, mode: u8) -> bool
+    ensures { λ r. ⌜ r ≡ permits change mode ⌝ }
+{
+    match change {
+        Change::Start(_) => mode == Track::STOPPED,
+        Change::End(_) => mode == Track::STOPPED,
+        Change::Loops(_) => settled(mode),
+        Change::Repeat(_) => settled(mode),
+        Change::Direction(_) => settled(mode),
+        Change::Action(_, _, _) => settled(mode),
+        Change::Jump(_) => settled(mode),
+    }
+}
+
+impl Track {
+    // The start is set, and the track rewinds.
+    fn set_start(self, p: i64) -> Changed
+        requires { ⌜ Valid self ⌝ }
+        ensures { λ r. ⌜ r ≡ startSet self p ⌝ }
+    {
+        let low = self.min;
+        let high = Coordinate(self.end.0 - 1);
+        let Place::At(c) = Coordinate::between(p, low, high) else {
+            return refused(Answer::VALUE, self);
+        };
+        let mut next = self;
+        next.start = c;
+        accepted(next.rewound())
+    }
+
+    // The end is set, and the track rewinds.
+    fn set_end(self, p: i64) -> Changed
+        requires { ⌜ Valid self ⌝ }
+        ensures { λ r. ⌜ r ≡ endSet self p ⌝ }
+    {
+        let low = Coordinate(self.start.0 + 1);
+        let high = self.max;
+        let Place::At(c) = Coordinate::between(p, low, high) else {
+            return refused(Answer::VALUE, self);
+        };
+        let mut next = self;
+        next.end = c;
+        accepted(next.rewound())
+    }
+
+    fn set_loops(self, n: i64) -> Changed
+        ensures { λ r. ⌜ r ≡ loopsSet self n ⌝ }
+    {
+        let Natural::In(k) = in_range(n, 1, Track::LOOPS) else {
+            return refused(Answer::VALUE, self);
+        };
+        let mut next = self;
+        next.loops = k as u16;
+        accepted(next)
+    }
+
+    fn set_repeat(self, f: i64) -> Changed
+        ensures { λ r. ⌜ r ≡ repeatSet self f ⌝ }
+    {
+        let Natural::In(k) = in_range(f, 0, 1) else {
+            return refused(Answer::VALUE, self);
+        };
+        let mut next = self;
+        next.repeat = k == 1;
+        accepted(next)
+    }
+
+    // The direction is set; a STOPPED track rewinds by the new one.
+    fn set_direction(self, d: i64) -> Changed
+        ensures { λ r. ⌜ r ≡ directionSet self d ⌝ }
+    {
+        let Natural::In(k) = in_range(d, 0, 1) else {
+            return refused(Answer::VALUE, self);
+        };
+        let mode = self.mode;
+        let mut next = self;
+        next.backward = k == 1;
+        if mode == Track::STOPPED {
+            return accepted(next.rewound());
+        }
+        accepted(next)
+    }
+
+    // The event of a change from one mode to another is set; 0 clears it.
+    fn set_action(self, from: i64, to: i64, event: i64) -> Changed
+        ensures { λ r. ⌜ r ≡ actionSet self from to event ⌝ }
+    {
+        let Natural::In(a) = in_range(from, 0, 3) else {
+            return refused(Answer::VALUE, self);
+        };
+        let Natural::In(b) = in_range(to, 0, 3) else {
+            return refused(Answer::VALUE, self);
+        };
+        let Natural::In(e) = in_range(event, 0, Track::EVENT) else {
+            return refused(Answer::VALUE, self);
+        };
+        if a == b {
+            return refused(Answer::VALUE, self);
+        }
+        let at = (a * 4 + b) as usize;
+        let mut next = self;
+        next.actions[at] = e as u8;
+        accepted(next)
+    }
+
+    // The position is set, and is not yet visited.
+    fn jump(self, p: i64) -> Changed
+        ensures { λ r. ⌜ r ≡ jumpTo self p ⌝ }
+    {
+        let low = self.start;
+        let high = self.end;
+        let Place::At(c) = Coordinate::between(p, low, high) else {
+            return refused(Answer::VALUE, self);
+        };
+        accepted(self.moved(self.mode, c, self.passes, true))
+    }
+
+    // A set-up change: refused 2 where the mode does not allow it, then 3 for its value.
+    pub fn changed(self, change: Change) -> Changed
+        requires { ⌜ Valid self ⌝ }
+        ensures { λ r. ⌜ r ≡ changedBy self change ⌝ }
+    {
+        let mode = self.mode;
+        if !permits(change, mode) {
+            return refused(Answer::MODE, self);
+        }
+        match change {
+            Change::Start(p) => self.set_start(p),
+            Change::End(p) => self.set_end(p),
+            Change::Loops(n) => self.set_loops(n),
+            Change::Repeat(f) => self.set_repeat(f),
+            Change::Direction(d) => self.set_direction(d),
+            Change::Action(from, to, event) => self.set_action(from, to, event),
+            Change::Jump(p) => self.jump(p),
+        }
+    }
+}
