@@ -1,16 +1,15 @@
 -- The laws of one step.
 use Prim.Native.Nat.{ℕ, _+_, _-_, _/_, _%_, _≤_, _<_}
-use mathlib.Core.Path.{_≡_, refl, sym, _∙_, ap, ap₂}
-use mathlib.Core.Bool.{Bool, true, false, cond, not, _&&_, and-false}
+use mathlib.Core.Path.{_≡_, refl}
+use mathlib.Core.Bool.{Bool, true, false}
 use native.Mathlib.Nat.{mod-lt}
 use native.Mathlib.Omega.{arith}
-use lib.Dec.{eqb, leb}
+use lib.Dec.{eqb}
 use borrow.Author.Tests.{eqb-true, eqb-false, eq-eqb, ne-eqb}
 use Rattle.track.specs.declared.Track.{Track}
-use Rattle.track.specs.declared.Coordinate.{Coordinate}
-use Rattle.track.specs.Rule.{PLAYING, PAUSED, STOPPED, WAITING, Valid, newTrack, home, far, moved, rewound, stopped, entered}
+use Rattle.track.specs.Rule.{PLAYING, STOPPED, WAITING, Valid, home, far, moved, rewound, stopped, entered}
 use Rattle.track.specs.Walk.{arrival, passesAt, stops, visited, step}
-use Rattle.track.specs.Leap.{span, phase, place, next}
+use Rattle.track.specs.Leap.{span, place, next}
 use Rattle.track.proofs.Tests.{cond-cases}
 use Rattle.track.proofs.Cycle.{near-mod, near-div, last-mod, last-div}
 

@@ -1,8 +1,7 @@
 -- Bench cards of 01 that a track alone decides, computed from the definitions: F and G (jump), H (turned), I (start beside end).
-use Prim.Native.Nat.{ℕ}
 use mathlib.Core.Path.{_≡_, refl}
-use mathlib.Core.Bool.{Bool, true, false}
-use lib.IntN.{ℤ, pos}
+use mathlib.Core.Bool.{true, false}
+use lib.IntN.{pos}
 use Rattle.track.specs.declared.Track.{Track}
 use Rattle.track.specs.declared.setup.Answer.{Answer}
 use Rattle.track.specs.declared.setup.Answer.the-variants.{Accepted, Refused}

@@ -1,5 +1,5 @@
 -- What each definition comes to on each way out of the function that computes it; the callees' results are variables.
-use Prim.Native.Nat.{ℕ, zero, suc, _+_, _-_, _*_, _/_, _%_, _≤_, _<_, max, min}
+use Prim.Native.Nat.{ℕ, zero, suc, _+_, _-_, _*_, _/_, _%_, _≤_, _<_, max}
 use mathlib.Core.Path.{_≡_, refl, sym, _∙_, ap, ap₂}
 use mathlib.Core.Bool.{Bool, true, false, and-false}
 use native.Mathlib.Nat.{one-mul}
@@ -7,17 +7,11 @@ use native.Mathlib.Omega.{arith}
 use lib.Dec.{eqb, leb}
 use borrow.Author.Tests.{eq-eqb, ne-eqb, le-leb, lt-leb}
 use Rattle.track.specs.declared.Track.{Track}
-use Rattle.track.specs.declared.Coordinate.{Coordinate}
-use Rattle.track.specs.declared.number.Natural.{Natural}
-use Rattle.track.specs.declared.number.Natural.the-variants as natural
-use Rattle.track.specs.declared.number.Place.{Place}
-use Rattle.track.specs.declared.number.Place.the-variants as found
 use Rattle.track.specs.declared.setup.Change.{Change}
 use Rattle.track.specs.declared.setup.Changed.{Changed}
 use Rattle.track.specs.Rule.{STOPPED, PAUSED, WAITING, clockEnd, Valid, home, far, moved, rewound, stopped, entered}
 use Rattle.track.specs.Walk.{arrival, passesAt, stops, visited, step}
-use Rattle.track.specs.Leap.{span, phase, place, next, leap, ahead, stepsTo, stopStep, running}
-use Rattle.track.specs.Number.{onNatural, onPlace}
+use Rattle.track.specs.Leap.{span, phase, place, next, leap, stepsTo, stopStep, running}
 use Rattle.track.specs.Setup.{refused, settled, permits, setBy, changedBy}
 use Rattle.track.proofs.Leaps.{leap-zero}
 
@@ -138,19 +132,6 @@ settled-stopped e = simp (eq-eqb _ _ e)
 pub settled-else : {m : ℕ} → (m ≡ STOPPED → ⊥) → eqb m PAUSED ≡ settled m
 unfolding settled
 settled-else n = simp (ne-eqb _ _ n)
-
--- what a number or a position comes to, outside its range and within
-pub natural-out : {A : Type 0} (n : Natural) (f : ℕ → A) (x : A) {r : A} → n ≡ natural.Outside → r ≡ x → r ≡ onNatural n f x
-natural-out n f x e q = q ∙ simp e
-
-pub natural-take : {A : Type 0} (n : Natural) (f : ℕ → A) (x : A) {k : ℕ} {r : A} → n ≡ natural.In k → r ≡ f k → r ≡ onNatural n f x
-natural-take n f x e q = q ∙ simp e
-
-pub place-out : {A : Type 0} (p : Place) (f : Coordinate → A) (x : A) {r : A} → p ≡ found.Outside → r ≡ x → r ≡ onPlace p f x
-place-out p f x e q = q ∙ simp e
-
-pub place-take : {A : Type 0} (p : Place) (f : Coordinate → A) (x : A) {c : Coordinate} {r : A} → p ≡ found.At c → r ≡ f c → r ≡ onPlace p f x
-place-take p f x e q = q ∙ simp e
 
 module _ (t : Track) (c : Change) {b : Bool} (e : b ≡ permits c (t .mode)) where
   pub changed-not : b ≡ false → {r : Changed} → r ≡ refused 2 t → r ≡ changedBy t c

@@ -3,9 +3,9 @@ use mathlib.Core.Path.{_≡_, refl, sym, ap, subst, _∙_}
 use mathlib.Core.Bool.{Bool, true, false, cond, _&&_}
 use Prim.Native.Nat.{ℕ, suc, _+_, _-_, _<_, _≤_}
 use native.Mathlib.Omega.{arith}
-use borrow.Author.Tests.{ltb-true, ltb-false, leb-true, leb-false, lt-ltb, le-ltb, le-leb, lt-leb}
+use borrow.Author.Tests.{ltb-true, ltb-false, leb-true, leb-false, le-ltb, le-leb, lt-leb}
 use lib.Dec.{ltb, leb}
-use lib.IntN.{ℤ, pos, negsuc, subℕ, _-ℤ_}
+use lib.IntN.{ℤ, pos, negsuc, subℕ}
 use lib.Signed.{leZ}
 use mir.Syntax.{w64}
 use mir.Val.{SFits, toZ, ofZ}
@@ -13,7 +13,7 @@ use mir.Facts.{toZ-ofZ}
 use Rattle.track.proofs.Signs.{sub-yes, sub-no}
 use Rattle.track.proofs.Tests.{both}
 use Rattle.track.specs.Rule.{coordinateLast}
-use Rattle.track.specs.Number.{naturalOf, coordinateOf, within, valueOf, clampedOf}
+use Rattle.track.specs.Number.{naturalOf, coordinateOf, within, valueOf, clampedOf, onNatural, onPlace}
 use Rattle.track.specs.declared.Coordinate.{Coordinate}
 use Rattle.track.specs.declared.number.Natural.{Natural}
 use Rattle.track.specs.declared.number.Natural.the-variants as natural
@@ -129,6 +129,11 @@ module _ (P : ℤ → ℕ → Type 0) where
       at true e = c k (omega (arith, ltb-true 999999 k e))
       at false e = d k (omega (arith, ltb-false 999999 k e))
 
+-- a clamped bound is at most one past the last
+pub clamped-most : (n : ℤ) → clampedOf n ≤ 2000002
+clamped-most n =
+    by-clamp (λ (z : ℤ) (m : ℕ). m ≤ 2000002) n (λ k l. omega arith) (λ k l. omega arith) (λ k l. omega arith) (λ k l. omega arith)
+
 module _ (c : Coordinate) (h : c .0 ≤ coordinateLast) where
   from : ℤ → ℕ → Type 0
   from n m = leZ n (valueOf c) ≡ leb m (c .0 + 1)
@@ -159,6 +164,22 @@ module _ (c : Coordinate) (h : c .0 ≤ coordinateLast) where
   pub between-clamped : (a b : ℤ) → (leZ a (valueOf c) && leZ (valueOf c) b) ≡ (leb (clampedOf a) (c .0 + 1) && leb (c .0 + 1) (clampedOf b))
   between-clamped a b = λ i. from-clamped a i && to-clamped b i
 
--- ---- what a caller learns of f at a number n that it passed on, which the code reads back from its bits
-pub told : {A : Type 0} {n : ℤ} {r x : A} (f : ℤ → A) → SFits w64 n → r ≡ f (toZ w64 (ofZ w64 n)) → r ≡ x → f n ≡ x
+-- ---- what a number or a position comes to, outside its range and within
+pub natural-out : {A : Type 0} (n : Natural) (f : ℕ → A) (x : A) {r : A} → n ≡ natural.Outside → r ≡ x → r ≡ onNatural n f x
+natural-out n f x e q = q ∙ simp e
+
+pub natural-take : {A : Type 0} (n : Natural) (f : ℕ → A) (x : A) {k : ℕ} {r : A} → n ≡ natural.In k → r ≡ f k → r ≡ onNatural n f x
+natural-take n f x e q = q ∙ simp e
+
+pub place-out : {A : Type 0} (p : Place) (f : Coordinate → A) (x : A) {r : A} → p ≡ place.Outside → r ≡ x → r ≡ onPlace p f x
+place-out p f x e q = q ∙ simp e
+
+pub place-take : {A : Type 0} (p : Place) (f : Coordinate → A) (x : A) {c : Coordinate} {r : A} → p ≡ place.At c → r ≡ f c → r ≡ onPlace p f x
+place-take p f x e q = q ∙ simp e
+
+-- ---- a number that the code reads back from its bits, and what a caller learns of f at a number n that it passed on
+abbrev pub back : ℤ → ℤ
+back n = toZ w64 (ofZ w64 n)
+
+pub told : {A : Type 0} {n : ℤ} {r x : A} (f : ℤ → A) → SFits w64 n → r ≡ f (back n) → r ≡ x → f n ≡ x
 told f s e k = ap f (sym (toZ-ofZ s)) ∙ sym e ∙ k

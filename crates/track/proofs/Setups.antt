@@ -1,10 +1,10 @@
 -- What the set-up changes keep.
-use Prim.Native.Nat.{ℕ, zero, suc, _+_, _-_, _*_, _≤_, _<_}
-use mathlib.Core.Path.{_≡_, refl, sym, _∙_, ap}
-use mathlib.Core.Bool.{Bool, true, false, cond}
-use mathlib.Core.List.{List, [], _∷_}
+use Prim.Native.Nat.{ℕ, _+_, _-_, _*_, _≤_, _<_}
+use mathlib.Core.Path.{_≡_, refl, _∙_}
+use mathlib.Core.Bool.{Bool, true, false}
+use mathlib.Core.List.{List}
 use native.Mathlib.Omega.{arith}
-use lib.ListN.{getD, set, length}
+use lib.ListN.{set}
 use lib.Seq.{getD-set-other}
 use lib.IntN.{ℤ}
 use lib.Dec.{eqb}
@@ -18,12 +18,12 @@ use Rattle.track.specs.declared.number.Place.the-variants as place
 use Rattle.track.specs.declared.setup.Change.{Change}
 use Rattle.track.specs.declared.setup.Change.the-variants as change
 use Rattle.track.specs.declared.setup.Changed.{Changed}
-use Rattle.track.specs.Rule.{STOPPED, WAITING, Valid, Diagonal, newTrack, home, moved, rewound}
+use Rattle.track.specs.Rule.{STOPPED, Valid, Diagonal, newTrack, rewound}
 use Rattle.track.specs.Number.{naturalOf, coordinateOf, within, onNatural, onPlace}
-use Rattle.track.specs.Setup.{refused, setTo, withAction, turned, startSet, endSet, loopsSet, repeatSet, directionSet, actionSet, jumpTo, setBy, permits, changedBy}
+use Rattle.track.specs.Setup.{refused, setTo, turned, startSet, endSet, loopsSet, repeatSet, directionSet, actionSet, jumpTo, setBy, permits, changedBy}
 use Rattle.track.proofs.Tests.{cond-cases}
 use Rattle.track.proofs.Numbers.{natural-in, within-in}
-use Rattle.track.proofs.Arrivals.{moved-valid, home-inside}
+use Rattle.track.proofs.Arrivals.{moved-valid}
 
 -- u is t after a set-up change: valid, in its bounds and its mode, with no more passes
 pub record Keeps (t u : Track) : Type 0 where

@@ -1,17 +1,16 @@
 -- What the tests of `number` tell of an integer z, by its sign.
 use mathlib.Core.Path.{_≡_, refl, sym, ap, subst, _∙_}
 use mathlib.Core.Bool.{Bool, true, false, cond, _&&_}
-use Prim.Native.Nat.{ℕ, suc, _+_, _-_, _^_, _<_, _≤_}
+use Prim.Native.Nat.{ℕ, suc, _-_, _^_, _<_, _≤_}
 use native.Mathlib.Omega.{arith}
 use borrow.Author.Tests.{ltb-true, ltb-false, lt-ltb, le-ltb, le-leb, lt-leb}
 use lib.Dec.{T, ltb, leb, leb→le}
 use lib.IntN.{ℤ, pos, negsuc, natAbs, subℕ, _+ℤ_, _-ℤ_}
 use lib.Signed.{ltZ, nonNeg, mag}
 use mir.Syntax.{w64}
-use mir.Val.{SFits, toZ, ofZ}
+use mir.Val.{SFits}
 use Rattle.track.specs.Number.{naturalOf, coordinateOf, within, clampedOf}
 use Rattle.track.specs.declared.Coordinate.{Coordinate}
-use Rattle.track.specs.declared.number.Natural.{Natural}
 use Rattle.track.specs.declared.number.Natural.the-variants as natural
 use Rattle.track.specs.declared.number.Place.{Place}
 use Rattle.track.specs.declared.number.Place.the-variants as place
@@ -25,10 +24,6 @@ sub-yes a b h = simp (le-ltb a b h) refl
 
 pub sub-no : (a b : ℕ) → a < b → subℕ a b ≡ negsuc (b - suc a)
 sub-no a b h = simp (lt-ltb a b h) refl
-
--- a number read back from its bits
-abbrev pub back : ℤ → ℤ
-back n = toZ w64 (ofZ w64 n)
 
 -- ---- `in_range`
 pub natural-low : (z : ℤ) (least most : ℕ) → ltZ z (pos 0) ≡ true → natural.Outside ≡ naturalOf z least most

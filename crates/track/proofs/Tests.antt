@@ -1,6 +1,6 @@
 -- Laws of tests and choices, over any tests.
 use Prim.Native.Nat.{ℕ}
-use mathlib.Core.Path.{_≡_, refl}
+use mathlib.Core.Path.{_≡_, refl, sym, _∙_}
 use mathlib.Core.Bool.{Bool, true, false, cond, _&&_, false≢true}
 use mathlib.Core.List.{List, [], _∷_}
 use lib.Dec.{eqb}
@@ -11,6 +11,13 @@ use Rattle.track.specs.Rule.{every}
 pub cond-cases : {A : Type 0} (P : A → Type 0) (b : Bool) {x y : A} → (b ≡ true → P x) → (b ≡ false → P y) → P (cond b x y)
 cond-cases P true f g = f refl
 cond-cases P false f g = g refl
+
+-- the value that a test picks
+pub cond-yes : {A : Type 0} {b : Bool} (x y : A) {r : A} → b ≡ true → r ≡ x → r ≡ cond b x y
+cond-yes x y e q = q ∙ simp e
+
+pub cond-no : {A : Type 0} {b : Bool} (x y : A) {r : A} → b ≡ false → r ≡ y → r ≡ cond b x y
+cond-no x y e q = q ∙ simp e
 
 -- a test that cannot hold is false
 pub refuted : (b : Bool) → (b ≡ true → ⊥) → false ≡ b
@@ -37,6 +44,15 @@ every-is (false ∷ l) e = e .0
 pub both : (a b : Bool) → (a && b) ≡ true → (a ≡ true) × (b ≡ true)
 both true b h = (refl, h)
 both false b h = absurd (false≢true h)
+
+pub both-is : {a b : Bool} → a ≡ true → b ≡ true → (a && b) ≡ true
+both-is p q = simp (p, q)
+
+-- tests that hold together agree
+pub same-tests : (a b : Bool) → (a ≡ true → b ≡ true) → (b ≡ true → a ≡ true) → a ≡ b
+same-tests true b f g = sym (f refl)
+same-tests false true f g = g refl
+same-tests false false f g = refl
 
 -- tests of equivalent facts agree
 pub eqb-same : (a b c d : ℕ) → (a ≡ b → c ≡ d) → (c ≡ d → a ≡ b) → eqb a b ≡ eqb c d

@@ -1,6 +1,6 @@
 -- The mode grid (01, "Track"; 001, section 4.1).
 use Prim.Native.Nat.{ℕ}
-use mathlib.Core.Bool.{Bool, cond, _&&_, _||_}
+use mathlib.Core.Bool.{cond, _&&_, _||_}
 use lib.Dec.{leb, eqb}
 use Rattle.track.specs.Rule.{STOPPED, PLAYING, PAUSED, WAITING}
 use Rattle.track.specs.declared.grid.Decision.{Decision}

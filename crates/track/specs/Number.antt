@@ -1,6 +1,6 @@
 -- The numbers of a call, integers of either sign, and what a track keeps of them: `pos k` is k, `negsuc k` is -(k + 1).
 use Prim.Native.Nat.{ℕ, suc, _+_, _-_}
-use mathlib.Core.Bool.{Bool, true, false, cond, _&&_}
+use mathlib.Core.Bool.{cond, _&&_}
 use lib.Dec.{ltb, leb}
 use lib.IntN.{ℤ, pos, negsuc, _-ℤ_}
 use Rattle.track.specs.declared.number.Natural.{Natural}

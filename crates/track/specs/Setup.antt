@@ -4,7 +4,7 @@ use mathlib.Core.Bool.{Bool, true, cond, _||_}
 use lib.ListN.{set}
 use lib.IntN.{ℤ}
 use lib.Dec.{eqb}
-use Rattle.track.specs.Rule.{STOPPED, PAUSED, home, moved, rewound}
+use Rattle.track.specs.Rule.{STOPPED, PAUSED, moved, rewound}
 use Rattle.track.specs.Number.{naturalOf, coordinateOf, within, onNatural, onPlace}
 use Rattle.track.specs.declared.Track.{Track}
 use Rattle.track.specs.declared.Coordinate.{Coordinate}

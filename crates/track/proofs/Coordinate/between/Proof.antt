@@ -2,10 +2,9 @@ use Rattle.track.proofs.Coordinate.between.Statement.{statement}
 use Rattle.track.proofs.Coordinate.between.Tie as tie
 use Rattle.track.proofs.Numbers.{told}
 use Rattle.track.proofs.Signs.{between-nowhere, between-below, between-above, between-in}
-use Rattle.track.specs.Number.{coordinateOf, within}
+use Rattle.track.specs.Number.{coordinateOf}
 use borrow.Author.Needs.{needs}
-use mathlib.Core.Path.{ap, sym, _∙_}
-use mir.Facts.{toZ-ofZ}
+use mathlib.Core.Path.{sym}
 
 of-requires : tie.Need-of-requires
 of-requires c κs = search needs

@@ -1,6 +1,7 @@
 use Rattle.track.proofs.Coordinate.of.Statement.{statement}
 use Rattle.track.proofs.Coordinate.of.Tie as tie
-use Rattle.track.proofs.Signs.{back, place-low, place-high, place-mid, up, small}
+use Rattle.track.proofs.Numbers.{back}
+use Rattle.track.proofs.Signs.{place-low, place-high, place-mid, up, small}
 use Rattle.track.specs.Number.{coordinateOf}
 use Rattle.track.specs.declared.number.Place.the-variants.{At}
 use lib.Dec.{T}

@@ -1,10 +1,9 @@
 use Rattle.track.proofs.Exits.{changed-not, changed-by}
 use Rattle.track.proofs.Track.changed.Statement.{statement}
 use Rattle.track.proofs.Track.changed.Tie as tie
-use Rattle.track.specs.Setup.{startSet, endSet, loopsSet, repeatSet, directionSet, actionSet, jumpTo, setBy}
+use Rattle.track.specs.Setup.{setBy}
 use borrow.Author.Needs.{needs}
 use borrow.Author.Tests.{not-true, not-false}
-use mathlib.Core.Path.{_∙_, ap, ap₂}
 use mir.Facts.{toZ-ofZ}
 use mir.Syntax.{w64}
 

@@ -1,6 +1,4 @@
-use Prim.Native.Nat.{_+_, _-_}
-use Rattle.track.proofs.Exits.{place-out, place-take}
-use Rattle.track.proofs.Numbers.{told}
+use Rattle.track.proofs.Numbers.{told, place-out, place-take}
 use Rattle.track.proofs.Track.jump.Statement.{statement}
 use Rattle.track.proofs.Track.jump.Tie as tie
 use Rattle.track.specs.Number.{coordinateOf, within}
@@ -9,7 +7,7 @@ use Rattle.track.specs.declared.Track.{Track}
 use Rattle.track.specs.declared.number.Place.{Place}
 use borrow.Author.Needs.{needs}
 use lib.IntN.{ℤ}
-use mathlib.Core.Path.{_≡_, _∙_, ap}
+use mathlib.Core.Path.{_∙_, ap}
 
 abbrev at : Track → ℤ → Place
 at t z = within (t .start .0) (t .end .0) (coordinateOf z)

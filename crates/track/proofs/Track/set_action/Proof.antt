@@ -1,6 +1,5 @@
-use Prim.Native.Nat.{ℕ, _≤_}
-use Rattle.track.proofs.Exits.{natural-out, natural-take}
-use Rattle.track.proofs.Numbers.{told, natural-in}
+use Prim.Native.Nat.{_≤_}
+use Rattle.track.proofs.Numbers.{told, natural-in, natural-out, natural-take}
 use Rattle.track.proofs.Track.set_action.Statement.{statement}
 use Rattle.track.proofs.Track.set_action.Tie as tie
 use Rattle.track.specs.Number.{naturalOf}

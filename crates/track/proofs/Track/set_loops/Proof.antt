@@ -1,5 +1,4 @@
-use Rattle.track.proofs.Exits.{natural-out, natural-take}
-use Rattle.track.proofs.Numbers.{told, natural-in}
+use Rattle.track.proofs.Numbers.{told, natural-in, natural-out, natural-take}
 use Rattle.track.proofs.Track.set_loops.Statement.{statement}
 use Rattle.track.proofs.Track.set_loops.Tie as tie
 use Rattle.track.specs.Number.{naturalOf}

@@ -1,5 +1,4 @@
-use Rattle.track.proofs.Exits.{natural-out, natural-take}
-use Rattle.track.proofs.Numbers.{told}
+use Rattle.track.proofs.Numbers.{told, natural-out, natural-take}
 use Rattle.track.proofs.Track.set_repeat.Statement.{statement}
 use Rattle.track.proofs.Track.set_repeat.Tie as tie
 use Rattle.track.specs.Number.{naturalOf}

@@ -1,6 +1,5 @@
-use Prim.Native.Nat.{_+_, _-_}
-use Rattle.track.proofs.Exits.{place-out, place-take}
-use Rattle.track.proofs.Numbers.{told}
+use Prim.Native.Nat.{_-_}
+use Rattle.track.proofs.Numbers.{told, place-out, place-take}
 use Rattle.track.proofs.Track.set_start.Statement.{statement}
 use Rattle.track.proofs.Track.set_start.Tie as tie
 use Rattle.track.specs.Number.{coordinateOf, within}
@@ -9,7 +8,7 @@ use Rattle.track.specs.declared.Track.{Track}
 use Rattle.track.specs.declared.number.Place.{Place}
 use borrow.Author.Needs.{needs}
 use lib.IntN.{ℤ}
-use mathlib.Core.Path.{_≡_, _∙_, ap}
+use mathlib.Core.Path.{_∙_, ap}
 
 abbrev at : Track → ℤ → Place
 at t z = within (t .min .0) (t .end .0 - 1) (coordinateOf z)

@@ -1,4 +1,5 @@
-use Rattle.track.proofs.Signs.{back, place-low, place-high, place-mid, up, small}
+use Rattle.track.proofs.Numbers.{back}
+use Rattle.track.proofs.Signs.{place-low, place-high, place-mid, up, small}
 use Rattle.track.proofs.number.clamped.Statement.{statement}
 use Rattle.track.proofs.number.clamped.Tie as tie
 use Rattle.track.specs.Number.{clampedOf}

@@ -1,5 +1,6 @@
 use Prim.Native.Nat.{ℕ}
-use Rattle.track.proofs.Signs.{back, natural-low, not-low, natural-above, natural-below, natural-within}
+use Rattle.track.proofs.Numbers.{back}
+use Rattle.track.proofs.Signs.{natural-low, not-low, natural-above, natural-below, natural-within}
 use Rattle.track.proofs.number.in_range.Statement.{statement}
 use Rattle.track.proofs.number.in_range.Tie as tie
 use Rattle.track.specs.Number.{naturalOf}

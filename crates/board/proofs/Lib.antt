@@ -1,0 +1,14 @@
+pub mod Words
+pub mod Records
+pub mod Keys
+pub mod Rows
+pub mod Table
+pub mod Storing
+pub mod Ranges
+pub mod Packing
+pub mod Broken
+pub mod Passing
+pub mod Guards
+pub mod Ways
+pub mod Keeping
+pub mod Cards

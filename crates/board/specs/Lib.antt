@@ -1,0 +1,5 @@
+pub mod Bytes
+pub mod Record
+pub mod Points
+pub mod Rule
+pub mod Calls

@@ -1,0 +1,173 @@
+// What makes a lent board broken.
+use crate::Board;
+use crate::points::Point;
+use crate::points::Points;
+use track::Ticks;
+use track::Track;
+use track::number::Natural;
+use track::number::in_range;
+ghost use mathlib.Core.Path.{_≡_};
+ghost use Prim.Native.Nat.{_+_, _^_, _≤_, _<_};
+ghost use lib.ListN.{length, take};
+ghost use Rattle.board.specs.Points.{pointMost};
+ghost use Rattle.board.specs.Rule.{trackCount, isPresent, tracksTest, placeTest, deedTest, pointsTest, unbrokenParts};
+ghost use Rattle.board.specs.Calls.{foundIn};
+ghost use Rattle.track.specs.Rule.{soundTest};
+ghost use mathlib.Core.Bool.{false, not, _||_};
+
+// Whether a track is present.
+pub fn is_present(present: u16, track: u32) -> bool
+    ensures { λ r. ⌜ r ≡ isPresent present track ⌝ }
+{
+    if 16 <= track {
+        return false;
+    }
+    (present >> track) % 2 == 1
+}
+
+// The word with one track more.
+pub fn with_track(present: u16, track: u32) -> u16
+    requires { ⌜ isPresent present track ≡ false ⌝ }
+    requires { ⌜ track < trackCount ⌝ }
+    ensures { λ r. ⌜ r ≡ present + 2 ^ track ⌝ }
+{
+    present + (1u16 << track)
+}
+
+// The number of a present track.
+pub fn found(present: u16, track: i64) -> Natural
+    ensures { λ r. ⌜ r ≡ foundIn present track ⌝ }
+{
+    let Natural::In(i) = in_range(track, 0, 15) else {
+        return Natural::Outside;
+    };
+    if is_present(present, i) {
+        return Natural::In(i);
+    }
+    Natural::Outside
+}
+
+// Whether a track, if present, keeps its rules.
+fn sound_if(present: bool, t: Track, clock: Ticks) -> bool
+    ensures { λ r. ⌜ r ≡ (not present || soundTest t clock) ⌝ }
+{
+    if !present {
+        return true;
+    }
+    t.sound(clock)
+}
+
+// Whether the present tracks keep their rules.
+fn tracks_kept(tracks: [Track; Board::TRACKS], present: u16, clock: Ticks) -> bool
+    ensures { λ r. ⌜ r ≡ tracksTest present tracks clock ⌝ }
+{
+    let mut word = present;
+    let mut i: usize = 0;
+    while i < Board::TRACKS {
+        let t = tracks[i];
+        if !sound_if(word % 2 == 1, t, clock) {
+            return false;
+        }
+        word = word / 2;
+        i += 1;
+    }
+    true
+}
+
+// Whether a point's place is on its track, within the bounds.
+fn placed(present: u16, owner: Track, p: Point) -> bool
+    ensures { λ r. ⌜ r ≡ placeTest present owner p ⌝ }
+{
+    if !is_present(present, p.track as u32) {
+        return false;
+    }
+    if p.position.0 < owner.min.0 {
+        return false;
+    }
+    p.position.0 <= owner.max.0
+}
+
+// Whether a point's event, command and target are what they may be.
+pub fn able(present: u16, p: Point) -> bool
+    ensures { λ r. ⌜ r ≡ deedTest present p ⌝ }
+{
+    let event = p.event;
+    let command = p.command;
+    if event == 0 {
+        return false;
+    }
+    if 255 < event {
+        return false;
+    }
+    if 4 < command {
+        return false;
+    }
+    if command == 0 {
+        return p.target == 0;
+    }
+    is_present(present, p.target as u32)
+}
+
+// Whether the points ascend, and each keeps its rules.
+fn points_kept<'a>(
+    tracks: [Track; Board::TRACKS],
+    present: u16,
+    keys: &'a [u32],
+    infos: &'a [u32],
+    n: usize,
+) -> bool
+    requires { ⌜ (n ≤ length (now keys)) × (n ≤ length (now infos)) ⌝ }
+    ensures { λ r. ⌜ r ≡ pointsTest present tracks 0 (take n (now (keys .entry))) (take n (now (infos .entry))) ⌝ }
+{
+    let mut low: u32 = 0;
+    let mut i: usize = 0;
+    while i < n {
+        let k = keys[i];
+        let d = infos[i];
+        if k < low {
+            return false;
+        }
+        if Points::STRIDE * 16 <= k {
+            return false;
+        }
+        if 16777216 <= d {
+            return false;
+        }
+        let p = Point::of(k, d);
+        let at = (k / Points::STRIDE) as usize;
+        let owner = tracks[at];
+        if !placed(present, owner, p) {
+            return false;
+        }
+        if !able(present, p) {
+            return false;
+        }
+        low = k + 1;
+        i += 1;
+    }
+    true
+}
+
+// Whether a board, given by its parts, keeps every range and rule of its tracks, points and clock.
+pub fn unbroken<'a>(
+    tracks: [Track; Board::TRACKS],
+    present: u16,
+    clock: Ticks,
+    keys: &'a [u32],
+    infos: &'a [u32],
+    n: usize,
+) -> bool
+    requires { ⌜ (pointMost ≤ length (now keys)) × (pointMost ≤ length (now infos)) ⌝ }
+    ensures { λ r. ⌜ r ≡ unbrokenParts present tracks clock (now (keys .entry)) (now (infos .entry)) n ⌝ }
+{
+    if Ticks::END < clock.0 {
+        return false;
+    }
+    if Points::MOST < n {
+        return false;
+    }
+    if !tracks_kept(tracks, present, clock) {
+        return false;
+    }
+    points_kept(tracks, present, keys, infos, n)
+}
