@@ -44,7 +44,8 @@ present-set word i h = eqb-true _ _ (both (ltb i trackCount) (eqb (word / 2 ^ i 
 pub half-bit : (word i : ℕ) → word / 2 / 2 ^ i ≡ word / 2 ^ suc i
 half-bit word i = div-div-eq-div-mul word 2 (2 ^ i) ∙ ap (λ (m : ℕ). word / m) (mul-comm 2 (2 ^ i) ∙ sym (pow-suc 2 i))
 
-tracks-at : (ts : List Track) (word : ℕ) (clock : Ticks) → tracksTest word ts clock ≡ true →
+-- the tracks that the word says are present are sound, where the test holds
+pub tracks-at : (ts : List Track) (word : ℕ) (clock : Ticks) → tracksTest word ts clock ≡ true →
     (i : ℕ) → i < length ts → word / 2 ^ i % 2 ≡ 1 → Sound (trackAt ts i) clock
 unfolding tracksTest
 tracks-at [] word clock h i l e = absurd (not-suc-le-zero l)
@@ -56,7 +57,8 @@ tracks-at (t ∷ ts) word clock h (suc i) l e =
     let b = both (not (eqb (word % 2) 1) || soundTest t clock) (tracksTest (word / 2) ts clock) h in
     tracks-at ts (word / 2) clock (b .1) i (le-of-suc-le-suc l) (ap (λ (m : ℕ). m % 2) (half-bit word i) ∙ e)
 
-tracks-are : (ts : List Track) (word : ℕ) (clock : Ticks) →
+-- and the test holds where they are
+pub tracks-are : (ts : List Track) (word : ℕ) (clock : Ticks) →
     ((i : ℕ) → i < length ts → word / 2 ^ i % 2 ≡ 1 → Sound (trackAt ts i) clock) → tracksTest word ts clock ≡ true
 unfolding tracksTest
 tracks-are [] word clock h = refl

@@ -126,7 +126,7 @@ ascending-insert (suc i) lo k (x ∷ ks) a l n b h =
     (ascending-insert i (suc x) k ks (ascending-rest lo x ks a) (b zero (zero-lt-suc i)) (le-of-suc-le-suc n)
     (λ j m. b (suc j) (suc-le-suc m)) (λ m. h (suc-le-suc m)))
 
-ascending-weaken : (lo hi : ℕ) (ks : List ℕ) → lo ≤ hi → ascendingFrom hi ks ≡ true → ascendingFrom lo ks ≡ true
+pub ascending-weaken : (lo hi : ℕ) (ks : List ℕ) → lo ≤ hi → ascendingFrom hi ks ≡ true → ascendingFrom lo ks ≡ true
 ascending-weaken lo hi [] l a = unfold ascendingFrom in refl
 ascending-weaken lo hi (x ∷ ks) l a =
     let m = ascending-head hi x ks a in

@@ -36,7 +36,8 @@ use Rattle.board.proofs.Guards.{found-in, drawn-rule}
 
 -- ---- a number or a position
 
-by-natural : {A : Type 0} (P : A → Type 0) (n : Natural) (f : ℕ → A) (x : A) → ((k : ℕ) → n ≡ natural.In k → P (f k)) → P x →
+-- what is done with a number in its range, and what with one outside
+pub by-natural : {A : Type 0} (P : A → Type 0) (n : Natural) (f : ℕ → A) (x : A) → ((k : ℕ) → n ≡ natural.In k → P (f k)) → P x →
     P (onNatural n f x)
 by-natural P (natural.In k) f x does other = does k refl
 by-natural P natural.Outside f x does other = other

@@ -54,3 +54,8 @@ packAnswer r s at = cond (kindTest (r .kind) && leb (at + recordWidth) (length s
 
 unfoldable pub packBytes : Record → List ℕ → ℕ → List ℕ
 packBytes r s at = cond (kindTest (r .kind) && leb (at + recordWidth) (length s)) (writeAt s at (recordBytes r)) s
+
+-- the bytes of records, one behind the other
+unfoldable pub logBytes : List Record → List ℕ
+logBytes [] = []
+logBytes (r ∷ rs) = recordBytes r ++ logBytes rs

@@ -31,7 +31,7 @@ pub enum Drawn {
     Bad,
 }
 
-fn refused(number: u8, board: Board) -> Outcome
+pub fn refused(number: u8, board: Board) -> Outcome
     ensures { λ r. ⌜ r ≡ refused number board ⌝ }
 {
     Outcome {
@@ -40,7 +40,7 @@ fn refused(number: u8, board: Board) -> Outcome
     }
 }
 
-fn accepted(board: Board) -> Outcome
+pub fn accepted(board: Board) -> Outcome
     ensures { λ r. ⌜ r ≡ accepted board ⌝ }
 {
     Outcome {
