@@ -11,6 +11,7 @@ pub mod Passing
 pub mod Guards
 pub mod Ways
 pub mod Keeping
+pub mod Runs
 pub mod Cards
 pub mod Cuts
 pub mod Replays
