@@ -62,7 +62,7 @@ impl Points {
     }
 
     // The index of the first key that is at least `wanted`, or `n` where there is none.
-    pub fn first_from(keys: &[u32], n: usize, wanted: u32) -> usize
+    pub(crate) fn first_from(keys: &[u32], n: usize, wanted: u32) -> usize
         requires { ⌜ n ≤ length (now keys) ⌝ }
         requires { ⌜ ascendingFrom 0 (take n (now keys)) ≡ true ⌝ }
         ensures { λ r. ⌜ r ≡ firstFrom (take n (now (keys .entry))) wanted ⌝ }
@@ -81,7 +81,7 @@ impl Points {
     }
 
     // The info beside a key, 0 where there is none.
-    pub fn info_at<'a>(keys: &'a [u32], infos: &'a [u32], n: usize, wanted: u32) -> u32
+    pub(crate) fn info_at<'a>(keys: &'a [u32], infos: &'a [u32], n: usize, wanted: u32) -> u32
         requires { ⌜ (n ≤ length (now keys)) × (n ≤ length (now infos)) ⌝ }
         requires { ⌜ ascendingFrom 0 (take n (now keys)) ≡ true ⌝ }
         ensures { λ r. ⌜ r ≡ infoAt wanted (take n (now (keys .entry))) (take n (now (infos .entry))) ⌝ }
@@ -98,7 +98,7 @@ impl Points {
     }
 
     // How many keys stand from `from` on and below `past`.
-    pub fn count_between(keys: &[u32], n: usize, from: u32, past: u32) -> usize
+    pub(crate) fn count_between(keys: &[u32], n: usize, from: u32, past: u32) -> usize
         requires { ⌜ n ≤ length (now keys) ⌝ }
         requires { ⌜ ascendingFrom 0 (take n (now keys)) ≡ true ⌝ }
         ensures { λ r. ⌜ r ≡ countOf (between from past) (take n (now (keys .entry))) ⌝ }
@@ -150,7 +150,7 @@ impl Points {
     }
 
     // What stands at a position of a track, and the nearest point strictly further on in a direction, within start to end.
-    pub fn look_up<'a>(
+    pub(crate) fn look_up<'a>(
         keys: &'a [u32],
         infos: &'a [u32],
         n: usize,
@@ -210,7 +210,7 @@ impl Points {
     }
 
     // Stores a point, or another info at its key.
-    pub fn stored(self, wanted: u32, info: u32) -> Stored
+    pub(crate) fn stored(self, wanted: u32, info: u32) -> Stored
         requires { ⌜ self .count ≤ pointMost ⌝ }
         requires { ⌜ ascendingFrom 0 (keysOf self) ≡ true ⌝ }
         ensures { λ r. ⌜ r ≡ storedIn self wanted info ⌝ }
@@ -237,7 +237,7 @@ impl Points {
     }
 
     // Drops the point with a key, if there is one.
-    pub fn dropped(self, wanted: u32) -> Stored
+    pub(crate) fn dropped(self, wanted: u32) -> Stored
         requires { ⌜ self .count ≤ pointMost ⌝ }
         requires { ⌜ ascendingFrom 0 (keysOf self) ≡ true ⌝ }
         ensures { λ r. ⌜ r ≡ droppedFrom self wanted ⌝ }
@@ -266,7 +266,7 @@ impl Points {
 
 impl Point {
     // The key of a point.
-    pub fn key(self) -> u32
+    pub(crate) fn key(self) -> u32
         requires { ⌜ (self .track < 16) × (self .position .0 ≤ 2000000) ⌝ }
         ensures { λ r. ⌜ r ≡ keyOf self ⌝ }
     {
@@ -274,7 +274,7 @@ impl Point {
     }
 
     // What else a point has, as one number.
-    pub fn info(self) -> u32
+    pub(crate) fn info(self) -> u32
         requires { ⌜ (self .command ≤ 4) × (self .target < 16) ⌝ }
         ensures { λ r. ⌜ r ≡ infoOf self ⌝ }
     {
@@ -287,7 +287,7 @@ impl Point {
     }
 
     // A point from its two numbers.
-    pub fn of(wanted: u32, info: u32) -> Point
+    pub(crate) fn of(wanted: u32, info: u32) -> Point
         requires { ⌜ (wanted < 33554432) × (info < 16777216) ⌝ }
         ensures { λ r. ⌜ r ≡ pointOf wanted info ⌝ }
     {

@@ -87,7 +87,7 @@ fn coordinate_of(w: u32) -> Coordinate
 }
 
 // A record is written at a place where it fits.
-pub fn put_record(r: Record, log: &mut [u8], at: usize)
+pub(crate) fn put_record(r: Record, log: &mut [u8], at: usize)
     requires { ⌜ at + 16 ≤ length (now log) ⌝ }
     ensures { λ _. ⌜ now (log .exit) ≡ writeAt (now (log .entry)) at (recordBytes r) ⌝ }
 {
