@@ -15,8 +15,8 @@ use Rattle.track.specs.Rule.{clockEnd, Sound, soundTest}
 use Rattle.track.proofs.Tests.{both, both-is}
 use Rattle.track.proofs.Checks.{sound-of, sound-is}
 use Rattle.board.specs.declared.Board.{Board}
-use Rattle.board.specs.declared.points.Point.{Point}
-use Rattle.board.specs.Points.{pointMost, ascendingFrom, pointOf}
+use Rattle.points.specs.declared.Point.{Point}
+use Rattle.points.specs.Points.{pointMost, ascendingFrom, pointOf}
 use Rattle.board.specs.Rule.{trackCount, eventMost, trackAt, isPresent, PointRule, Unbroken, tracksTest, placeTest, deedTest, pointsTest, unbrokenParts, unbrokenTest}
 
 -- ---- presence

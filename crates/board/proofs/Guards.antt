@@ -23,9 +23,9 @@ use Rattle.track.specs.declared.Coordinate.{Coordinate}
 use Rattle.track.specs.declared.Track.{Track}
 use Rattle.track.specs.declared.number.Place.{Place}
 use Rattle.track.specs.declared.number.Place.the-variants as place
-use Rattle.board.specs.declared.points.Point.{Point}
+use Rattle.points.specs.declared.Point.{Point}
 use Rattle.board.specs.declared.query.PointRead.the-variants as point
-use Rattle.board.specs.declared.points.Stored.{Stored}
+use Rattle.points.specs.declared.Stored.{Stored}
 use Rattle.board.specs.declared.setup.Outcome.{Outcome}
 use Rattle.board.specs.declared.setup.Drawn.{Drawn}
 use Rattle.board.specs.declared.setup.Drawn.the-variants as drawn
@@ -34,12 +34,12 @@ use Rattle.track.specs.Number.{valueOf, clampedOf}
 use Rattle.track.proofs.Numbers.{between-clamped, clamped-most, natural-in, within-in}
 use Rattle.track.proofs.Numbers.{back}
 use Rattle.track.proofs.Tests.{both, both-is, same-tests}
-use Rattle.board.specs.Points.{stride, keysOf, infosOf, infoAt, pointOf, countOf, between}
+use Rattle.points.specs.Points.{stride, keysOf, infosOf, infoAt, pointOf, countOf, between}
 use Rattle.board.specs.Rule.{eventMost, Unbroken, PointRule, trackAt, deedTest, placeTest}
 use Rattle.board.specs.Calls.{foundIn, inRange, drawnFrom, ableOnly, pointWith, pointRead, accepted, refused, boardWith, putPoints, onDrawn}
 use Rattle.board.specs.declared.Board.{Board}
 use Rattle.board.proofs.Broken.{Shaped, present-bit, present-small, half-bit, point-of}
-use Rattle.board.proofs.Table.{info-entry}
+use Rattle.points.proofs.Table.{info-entry}
 
 -- ---- the number of a present track
 

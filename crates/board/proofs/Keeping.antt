@@ -17,17 +17,17 @@ use Rattle.track.specs.Rule.{Sound, newTrack}
 use Rattle.track.specs.Setup.{changedBy}
 use Rattle.track.proofs.Setups.{changed-keeps, new-valid}
 use Rattle.board.specs.declared.Board.{Board}
-use Rattle.board.specs.declared.points.Point.{Point}
-use Rattle.board.specs.declared.points.Points.{Points}
+use Rattle.points.specs.declared.Point.{Point}
+use Rattle.points.specs.declared.Points.{Points}
 use Rattle.board.specs.declared.setup.Outcome.{Outcome}
-use Rattle.board.specs.Points.{ascendingFrom, noPoints, pointOf, keyOf, infoOf, storedIn, droppedFrom}
+use Rattle.points.specs.Points.{ascendingFrom, noPoints, pointOf, keyOf, infoOf, storedIn, droppedFrom}
 use Rattle.board.specs.Rule.{trackCount, trackAt, noTrack, isPresent, PointRule, Unbroken, unbrokenTest, freshBoard}
 use Rattle.board.specs.Calls.{boardWith, setUp, addTrack, setPoint, dropPoint, clearBoard}
 use Rattle.board.proofs.Broken.{Shaped, unbroken-is, present-small, present-set, present-bit, half-bit}
-use Rattle.board.proofs.Keys.{same-or-not}
-use Rattle.board.proofs.Packing.{point-back}
-use Rattle.board.proofs.Table.{Sorted, EachPoint}
-use Rattle.board.proofs.Storing.{stored-sorted, stored-each, dropped-sorted, dropped-each}
+use Rattle.points.proofs.Keys.{same-or-not}
+use Rattle.points.proofs.Packing.{point-back}
+use Rattle.points.proofs.Table.{Sorted, EachPoint}
+use Rattle.points.proofs.Storing.{stored-sorted, stored-each, dropped-sorted, dropped-each}
 use Rattle.board.proofs.Ways.{set-up-ways, add-track-ways, set-point-ways, drop-point-ways, clear-ways}
 
 -- every list as long as its type says, and every rule kept

@@ -15,9 +15,9 @@ use Rattle.track.specs.declared.Ticks.{Ticks}
 use Rattle.track.specs.Rule.{clockEnd, soundTest}
 use Rattle.track.specs.declared.number.Natural.the-variants as natural
 use Rattle.track.specs.Number.{naturalOf}
-use Rattle.board.specs.declared.points.Point.{Point}
+use Rattle.points.specs.declared.Point.{Point}
 use Rattle.board.specs.Calls.{foundIn}
-use Rattle.board.specs.Points.{pointMost, stride, pointOf}
+use Rattle.points.specs.Points.{pointMost, stride, pointOf}
 use Rattle.board.specs.Rule.{eventMost, noTrack, trackAt, isPresent, tracksTest, placeTest, deedTest, pointsTest, unbrokenParts}
 use Rattle.board.proofs.Broken.{present-not}
 

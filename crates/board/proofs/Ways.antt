@@ -24,12 +24,12 @@ use Rattle.track.specs.Setup.{settled, permits, startSet, endSet, loopsSet, rep
 use Rattle.track.proofs.Tests.{cond-cases}
 use Rattle.track.proofs.Numbers.{natural-in, value-coordinate}
 use Rattle.board.specs.declared.Board.{Board}
-use Rattle.board.specs.declared.points.Point.{Point}
-use Rattle.board.specs.declared.points.Stored.{Stored}
+use Rattle.points.specs.declared.Point.{Point}
+use Rattle.points.specs.declared.Stored.{Stored}
 use Rattle.board.specs.declared.setup.Outcome.{Outcome}
 use Rattle.board.specs.declared.setup.Drawn.{Drawn}
 use Rattle.board.specs.declared.setup.Drawn.the-variants as drawn
-use Rattle.board.specs.Points.{key, keyOf, infoOf, storedIn, droppedFrom}
+use Rattle.points.specs.Points.{key, keyOf, infoOf, storedIn, droppedFrom}
 use Rattle.board.specs.Rule.{trackCount, trackAt, isPresent, PointRule, unbrokenTest}
 use Rattle.board.specs.Calls.{accepted, refused, boardWith, foundIn, whole, onTrack, putTrack, putPoints, onDrawn, drawnFrom, setUp, addTrack, setPoint, dropPoint, clearBoard}
 use Rattle.board.proofs.Guards.{found-in, drawn-rule}

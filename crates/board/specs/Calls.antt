@@ -17,9 +17,9 @@ use Rattle.track.specs.Rule.{newTrack}
 use Rattle.track.specs.Number.{naturalOf, coordinateOf, within, valueOf, onNatural, onPlace}
 use Rattle.track.specs.Setup.{changedBy, settled}
 use Rattle.board.specs.declared.Board.{Board}
-use Rattle.board.specs.declared.points.Point.{Point}
-use Rattle.board.specs.declared.points.Points.{Points}
-use Rattle.board.specs.declared.points.Stored.{Stored}
+use Rattle.points.specs.declared.Point.{Point}
+use Rattle.points.specs.declared.Points.{Points}
+use Rattle.points.specs.declared.Stored.{Stored}
 use Rattle.board.specs.declared.setup.Outcome.{Outcome}
 use Rattle.board.specs.declared.setup.Drawn.{Drawn}
 use Rattle.board.specs.declared.setup.Drawn.the-variants as drawn
@@ -30,7 +30,7 @@ use Rattle.board.specs.declared.query.PointRead.{PointRead}
 use Rattle.board.specs.declared.query.PointRead.the-variants as point
 use Rattle.board.specs.declared.query.CountRead.{CountRead}
 use Rattle.board.specs.declared.query.CountRead.the-variants as count
-use Rattle.board.specs.Points.{stride, key, keysOf, infosOf, infoAt, keyOf, infoOf, pointOf, storedIn, droppedFrom, countOf}
+use Rattle.points.specs.Points.{stride, key, keysOf, infosOf, infoAt, keyOf, infoOf, pointOf, storedIn, droppedFrom, countOf}
 use Rattle.board.specs.Rule.{trackAt, isPresent, eventMost, deedTest, unbrokenTest}
 
 -- a refusal carries its number alone, the board equal to before

@@ -1,14 +1,2 @@
-pub mod Bytes
-pub mod Record
-pub mod Points
 pub mod Rule
 pub mod Calls
-pub mod Word
-pub mod Tick
-pub mod Quiet
-pub mod Cut
-pub mod Replay
-pub mod Ruling
-pub mod Does
-pub mod Arrivals
-pub mod Lists

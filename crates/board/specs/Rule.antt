@@ -9,9 +9,9 @@ use Rattle.track.specs.declared.Track.{Track}
 use Rattle.track.specs.declared.Ticks.{Ticks}
 use Rattle.track.specs.Rule.{clockEnd, Sound, soundTest, newTrack}
 use Rattle.board.specs.declared.Board.{Board}
-use Rattle.board.specs.declared.points.Points.{Points}
-use Rattle.board.specs.declared.points.Point.{Point}
-use Rattle.board.specs.Points.{pointMost, ascendingFrom, keysOf, pointOf, noPoints}
+use Rattle.points.specs.declared.Points.{Points}
+use Rattle.points.specs.declared.Point.{Point}
+use Rattle.points.specs.Points.{pointMost, ascendingFrom, keysOf, pointOf, noPoints}
 
 abbrev pub trackCount : ℕ
 trackCount = 16

@@ -6,16 +6,9 @@ use track::Track;
 ghost use mathlib.Core.Path.{_≡_};
 ghost use Rattle.board.specs.Rule.{freshBoard};
 
-pub mod advance;
-pub mod call;
-pub mod modes;
-pub mod points;
 pub mod query;
-mod quiet;
-pub mod record;
-mod rules;
+pub mod rules;
 pub mod setup;
-mod tick;
 
 #[repr(C)]
 pub struct Board {

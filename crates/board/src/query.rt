@@ -1,9 +1,9 @@
 // What can be asked of a board.
 use crate::Board;
-use crate::points::Point;
-use crate::points::Points;
 use crate::rules::found;
 use crate::rules::unbroken;
+use points::Point;
+use points::Points;
 use track::Coordinate;
 use track::Ticks;
 use track::Track;

@@ -1,7 +1,7 @@
 // What makes a lent board broken.
 use crate::Board;
-use crate::points::Point;
-use crate::points::Points;
+use points::Point;
+use points::Points;
 use track::Ticks;
 use track::Track;
 use track::number::Natural;
@@ -9,7 +9,7 @@ use track::number::in_range;
 ghost use mathlib.Core.Path.{_≡_};
 ghost use Prim.Native.Nat.{_+_, _^_, _≤_, _<_};
 ghost use lib.ListN.{length, take};
-ghost use Rattle.board.specs.Points.{pointMost};
+ghost use Rattle.points.specs.Points.{pointMost};
 ghost use Rattle.board.specs.Rule.{trackCount, isPresent, tracksTest, placeTest, deedTest, pointsTest, unbrokenParts};
 ghost use Rattle.board.specs.Calls.{foundIn};
 ghost use Rattle.track.specs.Rule.{soundTest};

@@ -1,12 +1,12 @@
 // The calls that set a board up, and clear.
 use crate::Board;
-use crate::points::Point;
-use crate::points::Points;
 use crate::rules::able;
 use crate::rules::found;
 use crate::rules::is_present;
 use crate::rules::unbroken;
 use crate::rules::with_track;
+use points::Point;
+use points::Points;
 use track::Coordinate;
 use track::Track;
 use track::number::Natural;
@@ -105,6 +105,12 @@ impl Board {
 
     // Track already present.
     pub const TAKEN: u8 = 6;
+
+    // Capacity below held.
+    pub const CAPACITY: u8 = 7;
+
+    // The mode call's record doesn't fit.
+    pub const ROOM: u8 = 8;
 
     // A set-up change of a track: start, end, loops, repeat, direction, action or jump.
     pub fn set_up(self, track: i64, change: Change) -> Outcome

@@ -2,12 +2,12 @@
 // then what a query read. A refused call that left another board would print `changed`.
 use crate::same::same_board;
 use board::Board;
-use board::points::Point;
 use board::query::ClockRead;
 use board::query::CountRead;
 use board::query::PointRead;
 use board::setup::Outcome;
 use libc::STDOUT_FILENO;
+use points::Point;
 use track::Coordinate;
 use track::Track;
 use track::setup::Answer;

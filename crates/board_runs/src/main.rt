@@ -8,6 +8,10 @@ use crate::show::text;
 use crate::show::told;
 use crate::show::track;
 use board::Board;
+use motion::modes::pause;
+use motion::modes::play;
+use motion::modes::resume;
+use motion::modes::stop;
 use track::setup::Change;
 
 mod show;
@@ -29,9 +33,9 @@ fn card_a(ready: Board) {
     text(b"card,A\n");
     let mut log = [0u8; 96];
     let played = start(ready, &mut log);
-    let waiting = played.advance(10, &mut log).board;
-    let resumed = waiting.resume(0, &mut log).board;
-    let last = resumed.advance(10, &mut log).board;
+    let waiting = motion::advance::advance(played, 10, &mut log).board;
+    let resumed = resume(waiting, 0, &mut log).board;
+    let last = motion::advance::advance(resumed, 10, &mut log).board;
     finish(last, &log);
 }
 
@@ -84,9 +88,9 @@ fn card_h(ready: Board) {
     let played = start(ready, &mut log);
     let visited = advance(played, 3, &mut log);
     track(visited, 0);
-    let paused = told(visited.pause(0, &mut log));
+    let paused = told(pause(visited, 0, &mut log));
     let turned = told(paused.set_up(0, Change::Direction(1)));
-    let resumed = told(turned.resume(0, &mut log));
+    let resumed = told(resume(turned, 0, &mut log));
     let last = advance(resumed, 1, &mut log);
     track(last, 0);
 }
@@ -136,8 +140,8 @@ fn card_l(fresh: Board) {
 // On a log too short for what is held: 7, before any other number.
 fn too_short(played: Board) {
     let mut less = [0u8; 15];
-    told(played.stop(0, &mut less));
-    told(played.play(16, &mut less));
+    told(stop(played, 0, &mut less));
+    told(play(played, 16, &mut less));
     advance(played, 0, &mut less);
 }
 
@@ -152,12 +156,12 @@ fn recorded(fresh: Board) -> Board {
 fn refusals(fresh: Board) {
     text(b"card,refusals\n");
     let mut log = [0u8; 16];
-    let played = told(recorded(fresh).play(0, &mut log));
+    let played = told(play(recorded(fresh), 0, &mut log));
     too_short(played);
-    told(played.play(16, &mut log));
-    told(played.resume(0, &mut log));
-    told(played.pause(0, &mut log));
-    let stopped = told(played.stop(0, &mut log));
+    told(play(played, 16, &mut log));
+    told(resume(played, 0, &mut log));
+    told(pause(played, 0, &mut log));
+    let stopped = told(stop(played, 0, &mut log));
     finish(stopped, &log);
 }
 

@@ -1,11 +1,12 @@
 // Calls of a board on a lent log, their answers printed as lines.
 use board::Board;
-use board::advance::Advanced;
-use board::record::Record;
-use board::record::Unpacked;
-use board::record::unpack;
 use board::setup::Outcome;
 use libc::STDOUT_FILENO;
+use motion::advance::Advanced;
+use motion::modes::play;
+use record::Record;
+use record::Unpacked;
+use record::unpack;
 use track::Coordinate;
 use track::setup::Answer;
 
@@ -101,7 +102,7 @@ pub fn told(r: Outcome) -> Board {
 
 // Track 0 played, without a line.
 pub fn start(b: Board, log: &mut [u8]) -> Board {
-    b.play(0, log).board
+    play(b, 0, log).board
 }
 
 // The line of an advance that took fewer ticks, and why.
@@ -123,7 +124,7 @@ fn advanced(answer: Advanced) {
 
 // An advance, printed.
 pub fn advance(b: Board, count: i64, log: &mut [u8]) -> Board {
-    let r = b.advance(count, log);
+    let r = motion::advance::advance(b, count, log);
     let answer = r.answer;
     advanced(answer);
     r.board

@@ -5,7 +5,7 @@ use Rattle.board.proofs.Broken.{Shaped, unbroken-of, present-small}
 use Rattle.board.proofs.Guards.{found-in, drawn-rule, target-below, points-refused, points-put, drawn-bad, drawn-good, drawn-told}
 use Rattle.board.proofs.Passing.{length-mapped}
 use Rattle.board.specs.Calls.{foundIn, drawnFrom, setPoint}
-use Rattle.board.specs.Points.{storedIn}
+use Rattle.points.specs.Points.{storedIn}
 use Rattle.board.specs.Rule.{unbrokenTest, Unbroken, PointRule, trackAt}
 use Rattle.board.specs.declared.setup.Drawn.the-variants.{Good}
 use Rattle.track.proofs.Numbers.{told, natural-out, natural-take}

@@ -1,0 +1,4 @@
+pub mod Runs
+pub mod Cards
+pub mod Reports
+pub mod Lists

@@ -1,0 +1,17 @@
+use Rattle.motion.proofs.modes.resume.Statement.{statement}
+use Rattle.motion.proofs.modes.resume.Tie as tie
+use Rattle.motion.proofs.Machine.{resume-gives}
+use borrow.Author.Needs.{needs}
+use mir.Facts.{toZ-ofZ}
+
+mode-call-requires : tie.Need-mode-call-requires
+mode-call-requires c κs = search needs
+
+same-length : tie.Need-same-length
+same-length c = search needs
+
+returns : tie.Need-returns
+returns c = resume-gives _ _ _ _ (toZ-ofZ (c .before .before .before .before .before .fits .track)) (c .before .before .mode-call .ensures)
+
+pub resume-spec : {M : Type 1} → statement M
+resume-spec = tie.close (tie.spec mode-call-requires same-length returns)

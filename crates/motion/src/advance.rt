@@ -1,0 +1,168 @@
+// Ticks: empty stretches are leapt, and a tick is kept if its records fit.
+use board::Board;
+use board::rules::unbroken;
+use points::Points;
+use record::Record;
+use tick::commit;
+use tick::note;
+use tick::playing;
+use tick::quiet::leapt;
+use tick::quiet::quiet;
+use tick::quiet::smaller;
+use tick::run_commands;
+use tick::step_member;
+use track::Ticks;
+use track::Track;
+use track::number::Natural;
+use track::number::in_range;
+use track::setup::Answer;
+ghost use mathlib.Core.Path.{_≡_};
+ghost use mathlib.Core.Bool.{true};
+ghost use Prim.Native.Nat.{_≤_};
+ghost use lib.ListN.{length};
+ghost use Rattle.board.specs.Rule.{unbrokenTest};
+ghost use Rattle.motion.specs.Ruling.{capacity};
+ghost use Rattle.replay.specs.Cut.{ticks};
+ghost use Rattle.replay.specs.Replay.{w-halt, w-step};
+ghost use Rattle.motion.specs.Does.{Gives, does, world, gridstep, advancedSaid, Ended};
+ghost use Rattle.motion.specs.declared.call.Call.the-variants as call;
+
+// What an advance answers: why it ended, with the ticks taken, or a refusal's number.
+pub enum Advanced {
+    Done(Ticks),
+    LogFull(Ticks),
+    ClockEnd(Ticks),
+    Refused(u8),
+}
+
+pub struct Progress {
+    pub answer: Advanced,
+    pub board: Board,
+}
+
+// Where ticks left off: what a tick changes of a board.
+struct Left {
+    answer: Advanced,
+    tracks: [Track; Board::TRACKS],
+    clock: u32,
+    held: usize,
+}
+
+// So many ticks of an unbroken board, unless the clock or the log ends them.
+fn run(b: Board, count: u32, log: &mut [u8]) -> Left
+    requires { ⌜ unbrokenTest b ≡ true ⌝ }
+    requires { ⌜ b .held ≤ capacity (length (now log)) ⌝ }
+    ensures { λ r. ⌜ Ended b (ticks (w-halt gridstep) (w-step gridstep) count (world b (now (log .entry)))) r (now (log .exit)) ⌝ }
+{
+    let present = b.present;
+    let n = b.points.count;
+    let slots = log.len() / Record::WIDTH;
+    let mut tracks = b.tracks;
+    let mut clock = b.clock.0;
+    let mut held = b.held as usize;
+    let mut taken: u32 = 0;
+    let mut stage = [0u8; 768];
+    let mut reached = [0u32; Board::TRACKS];
+    let mut answer = Advanced::Done(Ticks(0));
+    'ticks: while taken < count {
+        if clock == Ticks::END {
+            answer = Advanced::ClockEnd(Ticks(taken));
+            break 'ticks;
+        }
+        let word = playing(tracks, present);
+        let stretch = quiet(tracks, word, &b.points.keys, &b.points.infos, n);
+        let k = smaller(stretch.0, smaller(count - taken, Ticks::END - clock));
+        if 0 < k {
+            let moved = leapt(tracks, word, Ticks(k));
+            tracks = moved;
+            clock += k;
+            taken += k;
+            answer = Advanced::Done(Ticks(taken));
+            continue 'ticks;
+        }
+        let room = slots - held;
+        let mut next = tracks;
+        let mut rest = word;
+        let mut left = u16::count_ones(word);
+        let mut staged: usize = 0;
+        let mut m: usize = 0;
+        while 0 < left {
+            let i = u16::trailing_zeros(rest) as usize;
+            let t = next[i];
+            let l = t.arrival();
+            let here = i as u32 * Points::STRIDE + l.0;
+            let d = Points::info_at(&b.points.keys, &b.points.infos, n, here);
+            let r = step_member(t, i as u8, clock + 1, d, &mut stage, staged);
+            let after = r.track;
+            next[i] = after;
+            staged = r.count;
+            m = note(&mut reached, m, d);
+            if room < staged {
+                answer = Advanced::LogFull(Ticks(taken));
+                break 'ticks;
+            }
+            rest -= 1u16 << i;
+            left -= 1;
+        }
+        let done = run_commands(next, present, clock + 1, &reached, m, &mut stage, staged);
+        let total = done.count;
+        if room < total {
+            answer = Advanced::LogFull(Ticks(taken));
+            break 'ticks;
+        }
+        commit(log, held * Record::WIDTH, &stage, total * Record::WIDTH);
+        held += total;
+        let moved = done.tracks;
+        tracks = moved;
+        clock += 1;
+        taken += 1;
+        answer = Advanced::Done(Ticks(taken));
+    }
+    Left {
+        answer,
+        tracks,
+        clock,
+        held,
+    }
+}
+
+// Advances by a count of ticks, 0 to 4,294,967,295.
+pub fn advance(b: Board, count: i64, log: &mut [u8]) -> Progress
+    ensures { λ r. ⌜ Gives (does (call.Advance count) (world b (now (log .entry)))) (advancedSaid (r .answer)) (r .board) (now (log .exit)) ⌝ }
+{
+    let tracks = b.tracks;
+    if !unbroken(
+        tracks,
+        b.present,
+        b.clock,
+        &b.points.keys,
+        &b.points.infos,
+        b.points.count,
+    ) {
+        return Progress {
+            answer: Advanced::Refused(Answer::VALUE),
+            board: b,
+        };
+    }
+    let capacity = (log.len() / Record::WIDTH) as u64;
+    if capacity < b.held {
+        return Progress {
+            answer: Advanced::Refused(Board::CAPACITY),
+            board: b,
+        };
+    }
+    let Natural::In(n) = in_range(count, 0, 4294967295) else {
+        return Progress {
+            answer: Advanced::Refused(Answer::VALUE),
+            board: b,
+        };
+    };
+    let left = run(b, n, log);
+    let answer = left.answer;
+    let after = left.tracks;
+    let mut board = b;
+    board.tracks = after;
+    board.clock.0 = left.clock;
+    board.held = left.held as u64;
+    Progress { answer, board }
+}

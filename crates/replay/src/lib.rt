@@ -1,0 +1,1 @@
+// The theory of lists of calls over any board: no code, only definitions and laws.

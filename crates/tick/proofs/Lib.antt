@@ -1,0 +1,11 @@
+pub mod PlayingLaws
+pub mod Staging
+pub mod Commands
+pub mod Steps
+pub mod Bits
+pub mod Reaching
+pub mod Players
+pub mod LeapLaws
+pub mod Stretches
+pub mod Turns
+pub mod Members
