@@ -164,38 +164,7 @@ trace-written : {cs : List Call} {w u : World Board} {xs : List Reply} (t : Trac
 trace-written nothing = refl
 trace-written (then {c = c} {w = w} s t) = rw (step-is c w s, trace-written t)
 
--- ---- the theorem
-
--- What is claimed of a list of calls from a fresh board and any log.
-pub record Same {cs : List Call} {log : List ℕ} {xs : List Reply} {u : World Board} (t : Trace cs (world freshBoard log) xs u) : Type 0 where
-  -- (a) each answer, the end board and every log byte equal the replay's
-  pub answers-are : xs ≡ replayed cs log .answers
-  pub board-is : u .board ≡ replayed cs log .last .board
-  pub log-is : u .log ≡ replayed cs log .last .log
-  -- (b) the records that the calls write, call after call, are the row
-  pub row-is : allWritten t ≡ flat gridstep (replayed cs log .last .row)
-  -- (c) the row's records of kind 1 are those of the arrivals in the ticks taken, one for each, and no more
-  pub points-are : only isPoint (replayed cs log .last .row) ≡ gathered gridstep notesIn (ticked gridstep (cutUp cs) (start log))
-  pub points-count : length (only isPoint (replayed cs log .last .row)) ≡ total (λ b. length (arrivalsIn b)) (ticked gridstep (cutUp cs) (start log))
-
--- every list of calls from a fresh board, on any log
-pub lists : {cs : List Call} {log : List ℕ} {xs : List Reply} {u : World Board} (t : Trace cs (world freshBoard log) xs u) → Same t
-unfolding freshBoard
-lists {cs} {log} t =
-    let p = kinds gridstep counts isPoint notesIn tick-points call-points (cutUp cs) (start log) in
-    let e = sym (trace-is t) ∙ agrees gridstep counts (cutUp cs) (start log) in
-    record {
-      answers-are = ap (λ (x : All Reply (World Board)). x .answers) e;
-      board-is = ap (λ (x : All Reply (World Board)). x .last .board) e;
-      log-is = ap (λ (x : All Reply (World Board)). x .last .log) e;
-      row-is = sym (trace-written t) ∙ sym (rows gridstep counts room (cutUp cs) (start log) zero-le);
-      points-are = p;
-      points-count =
-          ap length p ∙ gathered-length gridstep notesIn (ticked gridstep (cutUp cs) (start log))
-          ∙ total-same (λ b. length (notesIn b)) (λ b. length (arrivalsIn b)) (λ b. length-map (arrivalsIn b) (noteOf b)) (ticked gridstep (cutUp cs) (start log));
-    }
-
--- ---- (d) the cut
+-- ---- the cut
 
 count-advance : (n : ℕ) → n ≤ most → countOf (advanceBy n) ≡ some n
 unfolding countOf
@@ -203,7 +172,7 @@ count-advance n h = rw (natural-of n 0 most zero-le h)
 
 -- two lists that differ only in the cut, from one board and log: of each run the ticks taken and what first stopped it, of any
 -- other call its answer, and the end board and log are equal
-pub recuts : {cs ds : List Call} {w u v : World Board} {xs ys : List Reply} → Recut most countOf advanceBy cs ds
+recuts : {cs ds : List Call} {w u v : World Board} {xs ys : List Reply} → Recut most countOf advanceBy cs ds
     → Trace cs w xs u → Trace ds w ys v
     → (observe takenIn whyNot (cutUp cs) xs ≡ observe takenIn whyNot (cutUp ds) ys) × (u ≡ v)
 unfolding read
@@ -217,13 +186,53 @@ r-kept s h e =
     ap (w-bar gridstep) (sym (shown-takes gridstep counts (gridstep .tick (s .board)) s)) ∙ w-kept gridstep read kept (shown gridstep s) h e
 
 -- they have one replay, its row included, but for the answers within a run
-pub replays-recut : {cs ds : List Call} (log : List ℕ) → Recut most countOf advanceBy cs ds
+replays-recut : {cs ds : List Call} (log : List ℕ) → Recut most countOf advanceBy cs ds
     → (observe takenIn whyNot (cutUp cs) (replayed cs log .answers) ≡ observe takenIn whyNot (cutUp ds) (replayed ds log .answers))
     × (replayed cs log .last ≡ replayed ds log .last)
 unfolding read
 replays-recut {cs} {ds} log r =
     cut (replay gridstep) takenIn whyNot (advance-add (r-halt gridstep) (r-step gridstep) (r-bar gridstep) stoppedBy refused r-kept read)
     (cutUp cs) (cutUp ds) (start log) (recut most countOf advanceBy count-advance cs ds r)
+
+-- ---- the theorem
+
+-- Demand 3, whole: what is claimed of a list of calls from a fresh board, on any log.
+pub record Demand3 {cs : List Call} {log : List ℕ} {xs : List Reply} {u : World Board} (t : Trace cs (world freshBoard log) xs u) : Type 0 where
+  -- (a) each answer, the end board and every log byte equal the replay's
+  pub answers-are : xs ≡ replayed cs log .answers
+  pub board-is : u .board ≡ replayed cs log .last .board
+  pub log-is : u .log ≡ replayed cs log .last .log
+  -- (b) the records that the calls write, call after call, are the row
+  pub row-is : allWritten t ≡ flat gridstep (replayed cs log .last .row)
+  -- (c) the row's records of kind 1 are those of the arrivals in the ticks taken, one for each, and no more
+  pub points-are : only isPoint (replayed cs log .last .row) ≡ gathered gridstep notesIn (ticked gridstep (cutUp cs) (start log))
+  pub points-count : length (only isPoint (replayed cs log .last .row)) ≡ total (λ b. length (arrivalsIn b)) (ticked gridstep (cutUp cs) (start log))
+  -- (d) a list that differs only in the cut, on a log equal at the start: of each run the ticks taken and what first stopped it,
+  -- of any other call its answer, and the end board and log are equal
+  pub recut-alike : {ds : List Call} {ys : List Reply} {v : World Board} → Recut most countOf advanceBy cs ds
+      → Trace ds (world freshBoard log) ys v
+      → (observe takenIn whyNot (cutUp cs) xs ≡ observe takenIn whyNot (cutUp ds) ys) × (u ≡ v)
+  -- and so are the rows
+  pub recut-row : {ds : List Call} → Recut most countOf advanceBy cs ds → replayed cs log .last .row ≡ replayed ds log .last .row
+
+-- every list of calls from a fresh board, on any log
+pub demand-3 : {cs : List Call} {log : List ℕ} {xs : List Reply} {u : World Board} (t : Trace cs (world freshBoard log) xs u) → Demand3 t
+unfolding freshBoard
+demand-3 {cs} {log} t =
+    let p = kinds gridstep counts isPoint notesIn tick-points call-points (cutUp cs) (start log) in
+    let e = sym (trace-is t) ∙ agrees gridstep counts (cutUp cs) (start log) in
+    record {
+      answers-are = ap (λ (x : All Reply (World Board)). x .answers) e;
+      board-is = ap (λ (x : All Reply (World Board)). x .last .board) e;
+      log-is = ap (λ (x : All Reply (World Board)). x .last .log) e;
+      row-is = sym (trace-written t) ∙ sym (rows gridstep counts room (cutUp cs) (start log) zero-le);
+      points-are = p;
+      points-count =
+          ap length p ∙ gathered-length gridstep notesIn (ticked gridstep (cutUp cs) (start log))
+          ∙ total-same (λ b. length (notesIn b)) (λ b. length (arrivalsIn b)) (λ b. length-map (arrivalsIn b) (noteOf b)) (ticked gridstep (cutUp cs) (start log));
+      recut-alike = λ r s. recuts r t s;
+      recut-row = λ r. ap (λ (s : State Board Record). s .row) (replays-recut log r .1);
+    }
 
 -- ---- no list of calls makes a broken board
 

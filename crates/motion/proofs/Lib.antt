@@ -1,3 +1,5 @@
 pub mod Rulings
 pub mod Machine
 pub mod Advancing
+pub mod Walked
+pub mod Cost

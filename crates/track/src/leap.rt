@@ -10,7 +10,7 @@ ghost use Rattle.track.specs.Leap.{span, phase, place, next, leap, stopS
 
 impl Track {
     // The number of locations of the span.
-    pub fn span(self) -> u32
+    pub(crate) fn span(self) -> u32
         requires { ⌜ Valid self ⌝ }
         ensures { λ r. ⌜ r ≡ span self ⌝ }
     {
@@ -18,7 +18,7 @@ impl Track {
     }
 
     // How far a location of the span is from home.
-    pub fn phase(self, l: Coordinate) -> u32
+    pub(crate) fn phase(self, l: Coordinate) -> u32
         requires { ⌜ (self .start .0 ≤ l .0) × (l .0 ≤ self .end .0) ⌝ }
         ensures { λ r. ⌜ r ≡ phase self (l .0) ⌝ }
     {
@@ -30,7 +30,7 @@ impl Track {
     }
 
     // The location that is k from home.
-    pub fn place(self, k: u32) -> Coordinate
+    pub(crate) fn place(self, k: u32) -> Coordinate
         requires { ⌜ Valid self ⌝ }
         requires { ⌜ k < span self ⌝ }
         ensures { λ r. ⌜ r .0 ≡ place self k ⌝ }
@@ -43,7 +43,7 @@ impl Track {
     }
 
     // How far from home the next step arrives.
-    pub fn next(self) -> u32
+    pub(crate) fn next(self) -> u32
         requires { ⌜ Valid self ⌝ }
         ensures { λ r. ⌜ r ≡ next self ⌝ }
     {

@@ -46,7 +46,7 @@ impl Track {
     }
 
     // Whether the next step stops the track.
-    pub fn stops(self) -> bool
+    pub(crate) fn stops(self) -> bool
         requires { ⌜ Valid self ⌝ }
         requires { ⌜ self .passes .0 ≤ clockEnd ⌝ }
         ensures { λ r. ⌜ r ≡ stops self ⌝ }
