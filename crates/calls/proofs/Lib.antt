@@ -1,4 +1,6 @@
 pub mod Runs
 pub mod Cards
 pub mod Reports
+pub mod Applying
 pub mod Lists
+pub mod Encoding

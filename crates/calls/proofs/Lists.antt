@@ -29,7 +29,7 @@ use Rattle.replay.specs.Cut.{Ran, ticks, Did, All, run, sorted, part, performs,
 use Rattle.replay.specs.Replay.{World, State, perform, wrote, w-bar, w-halt, w-step, replay, r-bar, r-halt, r-step, written, writtens, flat}
 use Rattle.replay.specs.Replay.{shown, only, gathered, ticked, total}
 use Rattle.motion.specs.Does.{Reply, refused, answered, clockSaid, trackSaid, pointSaid, countSaid, advancedSaid, Stop, ends, fills, stoppedBy}
-use Rattle.motion.specs.Does.{takenIn, whyNot, madeOf, untouched, barOf, barred, saysOf, makesOf, gridstep, most, countOf, advanceBy, does}
+use Rattle.motion.specs.Does.{takenIn, whyNot, untouched, barOf, barred, saysOf, makesOf, gridstep, most, countOf, advanceBy, does}
 use Rattle.motion.specs.Does.{world, Gives}
 use Rattle.calls.specs.Lists.{cutUp, start, replayed}
 use Rattle.calls.specs.Arrivals.{arrivalsIn, noteOf, notesIn, isPoint}
@@ -38,6 +38,8 @@ use Rattle.replay.proofs.Replays.{shown-takes, w-kept, agrees, rows, kinds, cut
 use Rattle.motion.proofs.Machine.{counts, room, kept, read, call-whole}
 use Rattle.board.proofs.Keeping.{Whole}
 use Rattle.calls.proofs.Reports.{tick-points, call-points}
+use Rattle.calls.proofs.Applying.{add-track-gives, set-up-gives, set-point-gives, drop-point-gives, clear-gives}
+use Rattle.calls.proofs.Applying.{clock-gives, track-gives, point-gives, point-count-gives}
 use Rattle.board.proofs.Board.add_track.Reads as add-track-says
 use Rattle.board.proofs.Board.set_up.Reads as set-up-says
 use Rattle.board.proofs.Board.set_point.Reads as set-point-says
@@ -109,39 +111,31 @@ did a v = record { answer = a; left = v }
 silent : (b : Board) (w : World Board) → wrote gridstep (untouched b) w ≡ world b (w .log)
 silent b w = ap (λ (c : Board). world c (w .log)) (counts .grown-zero b)
 
-outcome-is : (o : Outcome) (w : World Board) {r : Outcome} {a : Reply} {v : World Board} → r ≡ o → Left w r a v
-    → did (answered (o .answer)) (wrote gridstep (madeOf o) w) ≡ did a v
-outcome-is o w e l =
-    ap (did (answered (o .answer))) (silent (o .board) w)
-    ∙ ap (λ (o : Outcome). did (answered (o .answer)) (world (o .board) (w .log))) (sym e)
-    ∙ (λ j. did (sym (l .0) j) (sym (l .1) j))
-
-query-is : (w : World Board) {a b : Reply} {v : World Board} → b ≡ a → v ≡ w → did b (wrote gridstep (untouched (w .board)) w) ≡ did a v
-query-is w e q = λ j. did (e j) ((silent (w .board) w ∙ sym q) j)
+-- what a call gives is what it does
+gives-is : {d : Did Reply (World Board)} {a a′ : Reply} {b : Board} {l : List ℕ} {v : World Board} → Gives d a′ b l → a ≡ a′ → v ≡ world b l
+    → d ≡ did a v
+gives-is g p q = λ j. did ((sym (g .answer-is) ∙ sym p) j) (((λ i. world (sym (g .board-is) i) (sym (g .log-is) i)) ∙ sym q) j)
 
 lent-is : (c : Call) (w : World Board) (x y : RefT (List ℕ)) (b : Board) {a a′ : Reply} {v : World Board}
     → Gives (does c (world (w .board) (now x))) a′ b (now y) → now x ≡ w .log → a ≡ a′ → v ≡ world b (now y) → does c w ≡ did a v
-lent-is c w x y b {a} {a′} {v} g e p q =
-    let h : Gives (does c w) a′ b (now y) = subst (λ (l : List ℕ). Gives (does c (world (w .board) l)) a′ b (now y)) e g in
-    λ j. did ((sym (h .answer-is) ∙ sym p) j) (((λ i. world (sym (h .board-is) i) (sym (h .log-is) i)) ∙ sym q) j)
+lent-is c w x y b {a′ = a′} g e = gives-is (subst (λ (l : List ℕ). Gives (does c (world (w .board) l)) a′ b (now y)) e g)
 
 -- what each contract says is the rule
 step-is : (c : Call) (w : World Board) {a : Reply} {v : World Board} → Step c w a v → does c w ≡ did a v
-unfolding countOf saysOf makesOf
-step-is (call.AddTrack i lo hi) w s = outcome-is (addTrack (w .board) i lo hi) w (s .1) (s .2)
-step-is (call.SetUp i c) w s = outcome-is (setUp (w .board) i c) w (s .1) (s .2)
-step-is (call.SetPoint i p e f c g) w s = outcome-is (setPoint (w .board) i p e f c g) w (s .1) (s .2)
-step-is (call.DropPoint i p) w s = outcome-is (dropPoint (w .board) i p) w (s .1) (s .2)
+step-is (call.AddTrack i lo hi) w s = gives-is (add-track-gives (w .board) (w .log) i lo hi (s .1)) (s .2 .0) (s .2 .1)
+step-is (call.SetUp i c) w s = gives-is (set-up-gives (w .board) (w .log) i c (s .1)) (s .2 .0) (s .2 .1)
+step-is (call.SetPoint i p e f c g) w s = gives-is (set-point-gives (w .board) (w .log) i p e f c g (s .1)) (s .2 .0) (s .2 .1)
+step-is (call.DropPoint i p) w s = gives-is (drop-point-gives (w .board) (w .log) i p (s .1)) (s .2 .0) (s .2 .1)
 step-is (call.Play i) w s = lent-is (call.Play i) w (s .1) (s .2) (s .3 .board) (s .4) (s .5) (s .6) (s .7)
 step-is (call.Pause i) w s = lent-is (call.Pause i) w (s .1) (s .2) (s .3 .board) (s .4) (s .5) (s .6) (s .7)
 step-is (call.Resume i) w s = lent-is (call.Resume i) w (s .1) (s .2) (s .3 .board) (s .4) (s .5) (s .6) (s .7)
 step-is (call.Stop i) w s = lent-is (call.Stop i) w (s .1) (s .2) (s .3 .board) (s .4) (s .5) (s .6) (s .7)
 step-is (call.Advance n) w s = lent-is (call.Advance n) w (s .1) (s .2) (s .3 .board) (s .4) (s .5) (s .6) (s .7)
-step-is call.Clear w s = outcome-is (clearBoard (w .board)) w (s .1) (s .2)
-step-is call.Clock w s = query-is w (ap clockSaid (sym (s .1)) ∙ sym (s .2)) (s .3)
-step-is (call.Track i) w s = query-is w (ap (λ (r : TrackRead). trackSaid (r .answer) (r .track)) (sym (s .1)) ∙ sym (s .2)) (s .3)
-step-is (call.Point i p) w s = query-is w (ap pointSaid (sym (s .1)) ∙ sym (s .2)) (s .3)
-step-is (call.PointCount i from to) w s = query-is w (ap countSaid (sym (s .1)) ∙ sym (s .2)) (s .3)
+step-is call.Clear w s = gives-is (clear-gives (w .board) (w .log) (s .1)) (s .2 .0) (s .2 .1)
+step-is call.Clock w s = gives-is (clock-gives (w .board) (w .log) (s .1)) (s .2) (s .3)
+step-is (call.Track i) w s = gives-is (track-gives (w .board) (w .log) i (s .1)) (s .2) (s .3)
+step-is (call.Point i p) w s = gives-is (point-gives (w .board) (w .log) i p (s .1)) (s .2) (s .3)
+step-is (call.PointCount i from to) w s = gives-is (point-count-gives (w .board) (w .log) i from to (s .1)) (s .2) (s .3)
 
 -- A list of calls, one after the other: each gets the board and the log as the one before it left them.
 pub data Trace : List Call → World Board → List Reply → World Board → Type 0 where

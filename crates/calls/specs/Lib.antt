@@ -1,2 +1,4 @@
+pub mod Told
 pub mod Arrivals
 pub mod Lists
+pub mod Encoded

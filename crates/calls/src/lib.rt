@@ -1,1 +1,4 @@
-// Lists of calls: demand 3, and the bench cards. No code: definitions and laws over the calls of `board` and `motion`.
+// Calls as values and as rows of numbers, and lists of them (demand 3).
+pub mod apply;
+pub mod list;
+pub mod rows;
