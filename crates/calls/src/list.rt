@@ -29,7 +29,7 @@ fn no_call(b: Board) -> Applied
 }
 
 // What a row comes to, done.
-fn answer(b: Board, row: Coded, log: &mut [u8]) -> Applied
+pub fn answer(b: Board, row: Coded, log: &mut [u8]) -> Applied
     ensures { λ r. ⌜ Gives (rowDoes (codedAs row) (world b (now (log .entry)))) (replyOf (r .told) (r .track)) (r .board) (now (log .exit)) ⌝ }
 {
     let Coded::Call(c) = row else {

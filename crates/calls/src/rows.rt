@@ -157,7 +157,7 @@ fn track_row(t: Track) -> [u64; REPLY_WIDTH]
 }
 
 // The numbers of a reply, its kind first.
-fn reply_row(told: Told, track: Track) -> [u64; REPLY_WIDTH]
+pub fn reply_row(told: Told, track: Track) -> [u64; REPLY_WIDTH]
     ensures { λ r. ⌜ r ≡ numbersOf (replyOf told track) ⌝ }
 {
     match told {

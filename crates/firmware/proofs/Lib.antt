@@ -1,0 +1,4 @@
+pub mod Numbering
+pub mod Shapes
+pub mod Lent
+pub mod DoorLaws

@@ -1,0 +1,25 @@
+-- The answers that the firmware gets as numbers, and what each says by 01.
+use Prim.Native.Nat.{ℕ, zero, suc}
+use Rattle.track.specs.declared.setup.Answer.{Answer}
+use Rattle.track.specs.declared.setup.Answer.the-variants as answer
+use Rattle.motion.specs.Does.{Reply, accepted, refused, done, logFull, clockEnded}
+use Rattle.firmware.specs.declared.value.Ending.{Ending}
+
+-- a mode call's answer: 0 accepted, else the refusal's number
+abbrev pub numberOf : Answer → ℕ
+numberOf answer.Accepted = 0
+numberOf (answer.Refused n) = n
+
+abbrev pub numberSaid : ℕ → Reply
+numberSaid zero = accepted
+numberSaid (suc n) = refused (suc n)
+
+-- an advance's: its reason, 0 Done, 1 LogFull, 2 ClockEnd, with the ticks taken; any other is a refusal, with its number
+abbrev pub reasonSaid : ℕ → ℕ → Reply
+reasonSaid zero n = done n
+reasonSaid (suc zero) n = logFull n
+reasonSaid (suc (suc zero)) n = clockEnded n
+reasonSaid (suc (suc (suc k))) n = refused n
+
+abbrev pub endingSaid : Ending → Reply
+endingSaid e = reasonSaid (e .reason) (e .number)

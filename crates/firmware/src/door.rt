@@ -1,0 +1,50 @@
+// One door for every call and query, by its row of numbers, and for an encoded list of them.
+use board::Board;
+use calls::list::answer;
+use calls::list::run_calls;
+use calls::rows::REPLY_WIDTH;
+use calls::rows::call_of;
+use calls::rows::reply_row;
+ghost use mathlib.Core.Path.{_≡_};
+ghost use Rattle.motion.specs.Does.{world};
+ghost use Rattle.calls.specs.Encoded.{callOf, rowDoes, Executed};
+ghost use Rattle.firmware.specs.Door.{Answered};
+
+// The board after a call, and the numbers of its reply.
+#[repr(C)]
+pub struct Replied {
+    pub board: Board,
+    pub reply: [u64; REPLY_WIDTH],
+}
+
+// A call by its code and six numbers.
+#[no_mangle]
+pub extern "C" fn gridstep_call(
+    b: Board,
+    code: i64,
+    x1: i64,
+    x2: i64,
+    x3: i64,
+    x4: i64,
+    x5: i64,
+    x6: i64,
+    log: &mut [u8],
+) -> Replied
+    ensures { λ r. ⌜ Answered (rowDoes (callOf code x1 x2 x3 x4 x5 x6) (world b (now (log .entry)))) r (now (log .exit)) ⌝ }
+{
+    let row = call_of(code, x1, x2, x3, x4, x5, x6);
+    let r = answer(b, row, log);
+    let told = r.told;
+    let track = r.track;
+    let board = r.board;
+    let reply = reply_row(told, track);
+    Replied { board, reply }
+}
+
+// An encoded list of calls from a fresh board: the board that it ends with.
+#[no_mangle]
+pub extern "C" fn gridstep_run(calls: &[i64], log: &mut [u8], replies: &mut [u64]) -> Board
+    ensures { λ r. ⌜ Executed (now (calls .entry)) (now (log .entry)) (now (replies .entry)) r (now (log .exit)) (now (replies .exit)) ⌝ }
+{
+    run_calls(calls, log, replies)
+}
