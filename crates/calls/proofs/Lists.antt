@@ -24,7 +24,7 @@ use Rattle.motion.specs.declared.call.Call.{Call}
 use Rattle.motion.specs.declared.call.Call.the-variants as call
 use Rattle.board.specs.Rule.{freshBoard}
 use Rattle.board.specs.Calls.{setUp, addTrack, setPoint, dropPoint, clearBoard, clockOf, trackOf, pointIn, countIn}
-use Rattle.motion.specs.Ruling.{modeRuling}
+use Rattle.mode.specs.Ruling.{modeRuling}
 use Rattle.replay.specs.Cut.{Ran, ticks, Did, All, run, sorted, part, performs, Recut, observe}
 use Rattle.replay.specs.Replay.{World, State, perform, wrote, w-bar, w-halt, w-step, replay, r-bar, r-halt, r-step, written, writtens, flat}
 use Rattle.replay.specs.Replay.{shown, only, gathered, ticked, total}

@@ -23,7 +23,7 @@ use Rattle.board.specs.Rule.{trackAt, noTrack}
 use Rattle.tick.specs.Word.{members}
 use Rattle.tick.specs.Tick.{waits, commandOf, targetOf, Stage, pointRecords, changeRecords, foundBy, stepRecords, reachedBy, stepMember}
 use Rattle.tick.specs.Tick.{stepAll, commandRecords, obeyedRecords, runAll, playingWord, tickFrom, tickOf}
-use Rattle.motion.specs.Ruling.{Ruling, modeRuling}
+use Rattle.mode.specs.Ruling.{Ruling, modeRuling}
 use Rattle.replay.specs.Replay.{only}
 use Rattle.motion.specs.Does.{makesOf}
 use Rattle.calls.specs.Arrivals.{Arrival, arrivalAt, arrivalsOf, noteOf, notesIn, isPoint}

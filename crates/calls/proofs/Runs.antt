@@ -15,7 +15,7 @@ use Rattle.board.specs.Rule.{isPresent, tracksTest, placeTest, deedTest, points
 use Rattle.board.specs.Calls.{foundIn, setUp, addTrack, drawnFrom, setPoint}
 use Rattle.tick.specs.Word.{membersFrom}
 use Rattle.tick.specs.Tick.{waits, pointRecords, changeRecords, playingWord, stepRecords, stepMember, stepAll, commandRecords, commanded, runCommand, runAll, tickFrom}
-use Rattle.motion.specs.Ruling.{changesTo, decided, modeRuling}
+use Rattle.mode.specs.Ruling.{changesTo, decided, modeRuling}
 use Rattle.replay.specs.Cut.{All, ticks, advance, performs}
 use Rattle.replay.specs.Replay.{World, perform}
 use Rattle.motion.specs.Does.{Reply, gridstep, haltOf, barOf, saysOf, makesOf, countOf}

@@ -12,11 +12,11 @@ use Rattle.calls.specs.declared.apply.Told.{Told}
 use Rattle.calls.specs.declared.rows.Coded.{Coded}
 use Rattle.calls.specs.Told.{replyOf}
 use Rattle.calls.specs.Encoded.{codedAs, numbersOf, rowDoes}
-use Rattle.firmware.specs.Door.{Answered}
+use Rattle.firmware.specs.Door.{RowGives}
 
 pub door-answers : (row : Coded) (o : Option Call) (w : World Board) (told : Told) (track : Track) (board : Board) (reply log : List ℕ)
     → codedAs row ≡ o → Gives (rowDoes (codedAs row) w) (replyOf told track) board log → reply ≡ numbersOf (replyOf told track)
-    → Answered (rowDoes o w) (record { board = board; reply = reply }) log
+    → RowGives (rowDoes o w) (record { board = board; reply = reply }) log
 door-answers row o w told track board reply log e g r =
-    subst (λ (o : Option Call). Answered (rowDoes o w) (record { board = board; reply = reply }) log) e
+    subst (λ (o : Option Call). RowGives (rowDoes o w) (record { board = board; reply = reply }) log) e
     (record { reply-is = r ∙ ap numbersOf (g .answer-is); board-is = g .board-is; log-is = g .log-is })

@@ -17,7 +17,7 @@ use Rattle.board.specs.Calls.{foundIn}
 use Rattle.board.proofs.Ways.{by-natural}
 use Rattle.motion.specs.declared.call.Call.{Call}
 use Rattle.motion.specs.declared.call.Call.the-variants as call
-use Rattle.motion.specs.Ruling.{Ruling, capacity, declined, callRecords, changesTo, decided, modeRuling}
+use Rattle.mode.specs.Ruling.{Ruling, capacity, declined, callRecords, changesTo, decided, modeRuling}
 use Rattle.motion.specs.Does.{Reply, accepted, refused, done, logFull, clockEnded, clockIs, trackIs, pointIs, countIs, answered}
 use Rattle.motion.specs.Does.{countOf, saysOf, does, world, Gives}
 use Rattle.firmware.specs.Numbers.{numberOf, numberSaid}

@@ -10,7 +10,7 @@ use Rattle.calls.specs.Encoded.{numbersOf}
 use Rattle.firmware.specs.declared.door.Replied.{Replied}
 
 -- the numbers of the reply, the board and every log byte are those that a row gives
-pub record Answered (d : Did Reply (World Board)) (r : Replied) (log : List ℕ) : Type 0 where
+pub record RowGives (d : Did Reply (World Board)) (r : Replied) (log : List ℕ) : Type 0 where
   pub reply-is : r .reply ≡ numbersOf (d .answer)
   pub board-is : r .board ≡ d .left .board
   pub log-is : log ≡ d .left .log

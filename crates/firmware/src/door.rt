@@ -8,7 +8,7 @@ use calls::rows::reply_row;
 ghost use mathlib.Core.Path.{_≡_};
 ghost use Rattle.motion.specs.Does.{world};
 ghost use Rattle.calls.specs.Encoded.{callOf, rowDoes, Executed};
-ghost use Rattle.firmware.specs.Door.{Answered};
+ghost use Rattle.firmware.specs.Door.{RowGives};
 
 // The board after a call, and the numbers of its reply.
 #[repr(C)]
@@ -30,7 +30,7 @@ pub extern "C" fn gridstep_call(
     x6: i64,
     log: &mut [u8],
 ) -> Replied
-    ensures { λ r. ⌜ Answered (rowDoes (callOf code x1 x2 x3 x4 x5 x6) (world b (now (log .entry)))) r (now (log .exit)) ⌝ }
+    ensures { λ r. ⌜ RowGives (rowDoes (callOf code x1 x2 x3 x4 x5 x6) (world b (now (log .entry)))) r (now (log .exit)) ⌝ }
 {
     let row = call_of(code, x1, x2, x3, x4, x5, x6);
     let r = answer(b, row, log);

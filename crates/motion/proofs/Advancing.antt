@@ -30,7 +30,7 @@ use Rattle.points.specs.Points.{pointMost, keysOf, infosOf}
 use Rattle.tick.specs.Tick.{Stage, staged, tickFrom, playingWord}
 use Rattle.tick.specs.Word.{members}
 use Rattle.tick.specs.Quiet.{Each, Calm, Leapable, leapTracks, leapInto}
-use Rattle.motion.specs.Ruling.{capacity}
+use Rattle.mode.specs.Ruling.{capacity}
 use Rattle.replay.specs.Cut.{Ran, Did, ticks, counted, sorted}
 use Rattle.replay.specs.Replay.{World, w-halt, w-step, w-bar, perform}
 use Rattle.motion.specs.Does.{Reply, refused, Stop, ends, fills, gridstep, haltOf, barOf, barred, saysOf, makesOf, most, taken?, countOf, advanceBy, does, Gives, world, Ended, boardLeft, stoppedBy, advancedSaid}

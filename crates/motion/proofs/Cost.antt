@@ -26,7 +26,7 @@ use Rattle.replay.proofs.Cuts.{ticks-on, ticks-off}
 use Rattle.tick.specs.Word.{members}
 use Rattle.tick.specs.Tick.{playingWord, tickOf}
 use Rattle.tick.specs.Quiet.{Each, Some, loud, Calm, Fewest, Leapable, leapTracks}
-use Rattle.motion.specs.Ruling.{capacity}
+use Rattle.mode.specs.Ruling.{capacity}
 use Rattle.motion.specs.Does.{Stop, ends, fills, haltOf, gridstep}
 use Rattle.motion.specs.Cost.{playingCount, Stretch, leapOf, leapt, TickTurns, done, ended, leaps, filled, walks}
 use Rattle.tick.proofs.Players.{some-playing, some-member}

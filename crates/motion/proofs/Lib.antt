@@ -1,4 +1,3 @@
-pub mod Rulings
 pub mod Machine
 pub mod Advancing
 pub mod Walked

@@ -30,7 +30,7 @@ use Rattle.points.specs.Points.{keysOf, infosOf}
 use Rattle.board.specs.Rule.{trackAt, isPresent, unbrokenTest}
 use Rattle.board.specs.Calls.{boardWith, foundIn, setUp, addTrack, setPoint, dropPoint, clearBoard}
 use Rattle.tick.specs.Tick.{tickOf}
-use Rattle.motion.specs.Ruling.{Ruling, capacity, declined, callRecords, changing, changesTo, decided, modeRuling, Follows}
+use Rattle.mode.specs.Ruling.{Ruling, capacity, declined, callRecords, changing, changesTo, decided, modeRuling, Follows}
 use Rattle.replay.specs.Cut.{ticks, Part, run, one}
 use Rattle.replay.specs.Replay.{Made, World, flat, wrote, w-halt, w-bar, w-step, perform}
 use Rattle.motion.specs.Does.{refused, answered, Stop, ends, fills, stoppedBy, Reason, stopped, refusedWith, takenIn, whyNot, ticked, grownBy}

@@ -35,7 +35,7 @@ use Rattle.record.specs.Record.{recordWidth, recordBytes}
 use Rattle.board.specs.Rule.{unbrokenTest}
 use Rattle.board.specs.Calls.{boardWith, setUp, addTrack, setPoint, dropPoint, clearBoard, clockOf, trackOf, pointIn, countIn}
 use Rattle.tick.specs.Tick.{tickOf}
-use Rattle.motion.specs.Ruling.{Ruling, capacity, modeRuling}
+use Rattle.mode.specs.Ruling.{Ruling, capacity, modeRuling}
 use Rattle.replay.specs.Cut.{Ran, Did, part}
 use Rattle.replay.specs.Replay.{Made, Rules, World, perform}
 

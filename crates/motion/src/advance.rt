@@ -21,7 +21,7 @@ ghost use mathlib.Core.Bool.{true};
 ghost use Prim.Native.Nat.{_≤_};
 ghost use lib.ListN.{length};
 ghost use Rattle.board.specs.Rule.{unbrokenTest};
-ghost use Rattle.motion.specs.Ruling.{capacity};
+ghost use Rattle.mode.specs.Ruling.{capacity};
 ghost use Rattle.replay.specs.Cut.{ticks};
 ghost use Rattle.replay.specs.Replay.{w-halt, w-step};
 ghost use Rattle.motion.specs.Does.{Gives, does, world, gridstep, advancedSaid, Ended};

@@ -19,7 +19,7 @@ use Rattle.record.specs.Record.{recordWidth, recordBytes, logBytes}
 use Rattle.board.specs.Rule.{trackAt}
 use Rattle.board.specs.Calls.{refused, accepted, boardWith}
 use Rattle.tick.specs.Tick.{recordOf, changeRecords}
-use Rattle.motion.specs.Ruling.{Ruling, capacity, declined, callRecords, changesTo, Follows}
+use Rattle.mode.specs.Ruling.{Ruling, capacity, declined, callRecords, changesTo, Follows}
 
 -- a refusal follows a ruling that declines
 pub follows-declined : (k : ℕ) (b : Board) (log : List ℕ) {m : Ruling} {r : Outcome} → declined k b ≡ m → r ≡ refused k b → Follows m r log log

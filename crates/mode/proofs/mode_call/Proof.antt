@@ -1,14 +1,14 @@
 use Prim.Native.Nat.{_<_, _≤_}
-use Rattle.motion.proofs.modes.mode_call.Statement.{statement}
-use Rattle.motion.proofs.modes.mode_call.Tie as tie
+use Rattle.mode.proofs.mode_call.Statement.{statement}
+use Rattle.mode.proofs.mode_call.Tie as tie
 use Rattle.board.proofs.Broken.{Shaped, unbroken-of, present-small}
 use Rattle.tick.proofs.Commands.{Goes?, grid-goes}
 use Rattle.board.proofs.Guards.{found-in}
 use Rattle.board.proofs.Passing.{length-mapped}
-use Rattle.motion.proofs.Rulings.{follows-declined, follows-silent, follows-noted, follows-full, changed-with}
+use Rattle.mode.proofs.Rulings.{follows-declined, follows-silent, follows-noted, follows-full, changed-with}
 use Rattle.board.specs.Calls.{foundIn}
 use Rattle.board.specs.Rule.{unbrokenTest, Unbroken, trackAt}
-use Rattle.motion.specs.Ruling.{decided, changesTo, modeRuling}
+use Rattle.mode.specs.Ruling.{decided, changesTo, modeRuling}
 use Rattle.track.proofs.Numbers.{told, natural-out, natural-take}
 use Rattle.track.proofs.Tests.{cond-yes, cond-no}
 use Rattle.track.specs.Grid.{gridOf}
