@@ -1,7 +1,7 @@
 -- Calls and replies as rows of numbers, and what a list of encoded calls does (part e of demand 3).
 use Prim.Native.Nat.{ℕ, zero, suc, _+_, _*_, _-_, _/_, min}
 use mathlib.Core.Path.{_≡_}
-use mathlib.Core.Bool.{Bool, cond}
+use mathlib.Core.Bool.{cond}
 use mathlib.Core.List.{List, [], _∷_, _++_}
 use mathlib.Core.Option.{Option, none, some}
 use lib.Dec.{eqb}
@@ -10,6 +10,7 @@ use lib.ListN.{length, drop, getD, replicate}
 use Rattle.track.specs.declared.Track.{Track}
 use Rattle.track.specs.declared.setup.Change.the-variants as change
 use Rattle.points.specs.declared.Point.{Point}
+use Rattle.points.specs.Points.{bit}
 use Rattle.board.specs.declared.Board.{Board}
 use Rattle.motion.specs.declared.call.Call.{Call}
 use Rattle.motion.specs.declared.call.Call.the-variants as call
@@ -83,9 +84,6 @@ callsIn (some c ∷ ls) = c ∷ callsIn ls
 -- the numbers of a reply's row: its kind, then what it tells, then zeros
 abbrev pub replyWidth : ℕ
 replyWidth = 28
-
-abbrev pub bit : Bool → ℕ
-bit b = cond b 1 0
 
 abbrev pub padded : List ℕ → List ℕ
 padded xs = xs ++ replicate (replyWidth - length xs) 0

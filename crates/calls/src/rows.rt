@@ -10,9 +10,10 @@ ghost use mathlib.Core.Path.{_≡_};
 ghost use mathlib.Core.List.{_∷_, [], _++_};
 ghost use Prim.Native.Nat.{_+_, _*_, _≤_};
 ghost use lib.ListN.{length, take, drop};
+ghost use Rattle.points.specs.Points.{bit};
 ghost use Rattle.record.specs.Bytes.{writeAt};
 ghost use Rattle.calls.specs.Told.{replyOf};
-ghost use Rattle.calls.specs.Encoded.{codedAs, callOf, callAt, bit, padded, trackNumbers, pointNumbers, numbersOf};
+ghost use Rattle.calls.specs.Encoded.{codedAs, callOf, callAt, padded, trackNumbers, pointNumbers, numbersOf};
 
 // Numbers of a call's row.
 pub const CALL_WIDTH: usize = 7;
