@@ -1,0 +1,246 @@
+//! The calls of 01 as values, their answers, and both as rows of numbers.
+
+use crate::model::Point;
+use crate::track::Track;
+
+/// 01, "Turned down".
+pub mod refusal {
+    pub const ABSENT: u8 = 1;
+    pub const MODE: u8 = 2;
+    pub const VALUE: u8 = 3;
+    pub const NO_POINT: u8 = 4;
+    pub const POINTS_FULL: u8 = 5;
+    pub const PRESENT: u8 = 6;
+    pub const CAPACITY: u8 = 7;
+    pub const NO_ROOM: u8 = 8;
+    pub const GRAMMAR: u8 = 9;
+}
+
+/// One variant for each call; the first number is the track's where a track is named.
+#[derive(Clone, Copy, Debug, PartialEq, Eq)]
+pub enum Call {
+    /// track, min, max
+    Track(i64, i64, i64),
+    Start(i64, i64),
+    End(i64, i64),
+    Loops(i64, i64),
+    Repeat(i64, i64),
+    Direction(i64, i64),
+    /// track, position, event, wait, command, target
+    Point(i64, i64, i64, i64, i64, i64),
+    Drop(i64, i64),
+    /// track, from, to, event
+    Action(i64, i64, i64, i64),
+    Jump(i64, i64),
+    Play(i64),
+    Pause(i64),
+    Resume(i64),
+    Stop(i64),
+    Advance(i64),
+    Clear,
+    /// queries: clock and held; a track; the point at a position; the number of points from a to b
+    Clock,
+    ShowTrack(i64),
+    ShowPoint(i64, i64),
+    Count(i64, i64, i64),
+}
+
+impl Call {
+    /// Code and six arguments, 0 where unused.
+    pub fn encode(&self) -> [i64; 7] {
+        match *self {
+            Call::Track(t, min, max) => [1, t, min, max, 0, 0, 0],
+            Call::Start(t, p) => [2, t, p, 0, 0, 0, 0],
+            Call::End(t, p) => [3, t, p, 0, 0, 0, 0],
+            Call::Loops(t, n) => [4, t, n, 0, 0, 0, 0],
+            Call::Repeat(t, f) => [5, t, f, 0, 0, 0, 0],
+            Call::Direction(t, d) => [6, t, d, 0, 0, 0, 0],
+            Call::Point(t, p, event, wait, command, target) => [7, t, p, event, wait, command, target],
+            Call::Drop(t, p) => [8, t, p, 0, 0, 0, 0],
+            Call::Action(t, from, to, event) => [9, t, from, to, event, 0, 0],
+            Call::Jump(t, p) => [10, t, p, 0, 0, 0, 0],
+            Call::Play(t) => [11, t, 0, 0, 0, 0, 0],
+            Call::Pause(t) => [12, t, 0, 0, 0, 0, 0],
+            Call::Resume(t) => [13, t, 0, 0, 0, 0, 0],
+            Call::Stop(t) => [14, t, 0, 0, 0, 0, 0],
+            Call::Advance(n) => [15, n, 0, 0, 0, 0, 0],
+            Call::Clear => [16, 0, 0, 0, 0, 0, 0],
+            Call::Clock => [17, 0, 0, 0, 0, 0, 0],
+            Call::ShowTrack(t) => [18, t, 0, 0, 0, 0, 0],
+            Call::ShowPoint(t, p) => [19, t, p, 0, 0, 0, 0],
+            Call::Count(t, a, b) => [20, t, a, b, 0, 0, 0],
+        }
+    }
+
+    /// The call of a code; any other code is no call. Unused arguments are not read.
+    pub fn decode(row: &[i64; 7]) -> Option<Call> {
+        let [code, a, b, c, d, e, f] = *row;
+        Some(match code {
+            1 => Call::Track(a, b, c),
+            2 => Call::Start(a, b),
+            3 => Call::End(a, b),
+            4 => Call::Loops(a, b),
+            5 => Call::Repeat(a, b),
+            6 => Call::Direction(a, b),
+            7 => Call::Point(a, b, c, d, e, f),
+            8 => Call::Drop(a, b),
+            9 => Call::Action(a, b, c, d),
+            10 => Call::Jump(a, b),
+            11 => Call::Play(a),
+            12 => Call::Pause(a),
+            13 => Call::Resume(a),
+            14 => Call::Stop(a),
+            15 => Call::Advance(a),
+            16 => Call::Clear,
+            17 => Call::Clock,
+            18 => Call::ShowTrack(a),
+            19 => Call::ShowPoint(a, b),
+            20 => Call::Count(a, b, c),
+            _ => return None,
+        })
+    }
+}
+
+/// What a call answers. LogFull and ClockEnd are no refusals: they carry the ticks taken, as Done does.
+#[derive(Clone, Copy, Debug, PartialEq, Eq)]
+pub enum Reply {
+    Accepted,
+    Refused(u8),
+    Done(u32),
+    LogFull(u32),
+    ClockEnd(u32),
+    Clock {
+        clock: u32,
+        held: u64,
+    },
+    Track(Track),
+    /// its track, its position, and the rest of it
+    Point(i64, i64, Point),
+    Count(u64),
+}
+
+/// In a row of numbers a position stands as position + 1,000,000.
+pub const BIAS: i64 = 1_000_000;
+
+impl Reply {
+    /// Kind, then its values, zeros after.
+    pub fn encode(&self) -> [u64; 28] {
+        let mut row = [0; 28];
+        let (kind, values) = self.values();
+        row[0] = kind;
+        row[1..=values.len()].copy_from_slice(&values);
+        row
+    }
+
+    /// The reply of a row; none unless that very row is its encoding.
+    pub fn decode(row: &[u64; 28]) -> Option<Reply> {
+        let [kind, a, b, ..] = *row;
+        let reply = match kind {
+            0 => Reply::Accepted,
+            1 => Reply::Refused(a as u8),
+            2 => Reply::Done(a as u32),
+            3 => Reply::LogFull(a as u32),
+            4 => Reply::ClockEnd(a as u32),
+            5 => Reply::Clock { clock: a as u32, held: b },
+            6 => Reply::Track(track_of(row[1..].as_array()?)),
+            7 => Reply::Point(a as i64, b as i64 - BIAS, point_of(row[3..7].as_array()?)),
+            8 => Reply::Count(a),
+            _ => return None,
+        };
+        (reply.encode() == *row).then_some(reply)
+    }
+
+    fn values(&self) -> (u64, Vec<u64>) {
+        match *self {
+            Reply::Accepted => (0, vec![]),
+            Reply::Refused(number) => (1, vec![number as u64]),
+            Reply::Done(taken) => (2, vec![taken as u64]),
+            Reply::LogFull(taken) => (3, vec![taken as u64]),
+            Reply::ClockEnd(taken) => (4, vec![taken as u64]),
+            Reply::Clock { clock, held } => (5, vec![clock as u64, held]),
+            Reply::Track(track) => (6, track_values(&track)),
+            Reply::Point(track, position, point) => (7, point_values(track, position, &point)),
+            Reply::Count(number) => (8, vec![number]),
+        }
+    }
+}
+
+fn track_values(track: &Track) -> Vec<u64> {
+    let positions = [track.min, track.max, track.start, track.end, track.position].map(|p| p + BIAS);
+    let others = [track.passes, track.loops, track.mode, track.direction, track.repeat, track.due];
+    let cells = track.actions.as_flattened();
+    positions.iter().chain(&others).chain(cells).map(|&n| n as u64).collect()
+}
+
+/// A track by the numbers that its reply has.
+pub fn track_of(numbers: &[u64; 27]) -> Track {
+    let numbers = numbers.map(|n| n as i64);
+    let [min, max, start, end, position] = std::array::from_fn(|at| numbers[at] - BIAS);
+    let [passes, loops, mode, direction, repeat, due] = std::array::from_fn(|at| numbers[5 + at]);
+    let actions = std::array::from_fn(|from| std::array::from_fn(|to| numbers[11 + from * 4 + to]));
+    Track { min, max, start, end, position, passes, loops, mode, direction, repeat, due, actions }
+}
+
+fn point_values(track: i64, position: i64, point: &Point) -> Vec<u64> {
+    [track, position + BIAS, point.event, point.wait, point.command, point.target].map(|n| n as u64).to_vec()
+}
+
+fn point_of(numbers: &[u64; 4]) -> Point {
+    let [event, wait, command, target] = numbers.map(|n| n as i64);
+    Point { event, wait, command, target }
+}
+
+/// A board that takes the calls of 01: the model, the peer and the library. Mode calls are numbered as commands are.
+pub trait Board: Sized {
+    fn fresh() -> Self;
+    fn add_track(&mut self, t: i64, min: i64, max: i64) -> Reply;
+    fn start(&mut self, t: i64, p: i64) -> Reply;
+    fn end(&mut self, t: i64, p: i64) -> Reply;
+    fn loops(&mut self, t: i64, n: i64) -> Reply;
+    fn repeat(&mut self, t: i64, flag: i64) -> Reply;
+    fn direction(&mut self, t: i64, d: i64) -> Reply;
+    fn point(&mut self, t: i64, p: i64, point: Point) -> Reply;
+    fn drop_point(&mut self, t: i64, p: i64) -> Reply;
+    fn action(&mut self, t: i64, from: i64, to: i64, event: i64) -> Reply;
+    fn jump(&mut self, t: i64, p: i64) -> Reply;
+    fn mode_call(&mut self, command: i64, t: i64, log: &mut [u8]) -> Reply;
+    fn advance(&mut self, count: i64, log: &mut [u8]) -> Reply;
+    fn clear(&mut self) -> Reply;
+    fn show_clock(&self) -> Reply;
+    fn show_track(&self, t: i64) -> Reply;
+    fn show_point(&self, t: i64, p: i64) -> Reply;
+    fn count(&self, t: i64, a: i64, b: i64) -> Reply;
+
+    fn apply(&mut self, call: Call, log: &mut [u8]) -> Reply {
+        match call {
+            Call::Track(t, min, max) => self.add_track(t, min, max),
+            Call::Start(t, p) => self.start(t, p),
+            Call::End(t, p) => self.end(t, p),
+            Call::Loops(t, n) => self.loops(t, n),
+            Call::Repeat(t, flag) => self.repeat(t, flag),
+            Call::Direction(t, d) => self.direction(t, d),
+            Call::Point(t, p, event, wait, command, target) => self.point(t, p, Point { event, wait, command, target }),
+            Call::Drop(t, p) => self.drop_point(t, p),
+            Call::Action(t, from, to, event) => self.action(t, from, to, event),
+            Call::Jump(t, p) => self.jump(t, p),
+            Call::Play(t) => self.mode_call(1, t, log),
+            Call::Pause(t) => self.mode_call(2, t, log),
+            Call::Resume(t) => self.mode_call(3, t, log),
+            Call::Stop(t) => self.mode_call(4, t, log),
+            Call::Advance(count) => self.advance(count, log),
+            Call::Clear => self.clear(),
+            Call::Clock => self.show_clock(),
+            Call::ShowTrack(t) => self.show_track(t),
+            Call::ShowPoint(t, p) => self.show_point(t, p),
+            Call::Count(t, a, b) => self.count(t, a, b),
+        }
+    }
+
+    /// An encoded call; one that is no call is refused 9, ahead of everything.
+    fn apply_encoded(&mut self, row: &[i64; 7], log: &mut [u8]) -> Reply {
+        match Call::decode(row) {
+            Some(call) => self.apply(call, log),
+            None => Reply::Refused(refusal::GRAMMAR),
+        }
+    }
+}

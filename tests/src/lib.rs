@@ -1,0 +1,16 @@
+//! A second model of 01 (the GridStep sequence board), a leaping peer, the proved library, and lists of calls
+//! to compare them by.
+
+pub mod against;
+pub mod bench;
+pub mod call;
+pub mod cards;
+pub mod gen;
+pub mod library;
+pub mod lists;
+pub mod model;
+pub mod peer;
+pub mod plot;
+pub mod record;
+pub mod track;
+pub mod traps;

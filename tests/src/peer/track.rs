@@ -1,0 +1,157 @@
+//! A track of the peer: its walk counted in phases (distance from home), which are free of direction.
+
+use super::{BIAS, COORDINATES, STOPPED, WAITING, WIDTH};
+use crate::track;
+
+#[derive(Clone, Copy, Debug, Default, PartialEq, Eq)]
+pub struct Track {
+    pub min: u32,
+    pub max: u32,
+    pub start: u32,
+    pub end: u32,
+    pub position: u32,
+    pub passes: u32,
+    pub loops: u16,
+    pub mode: u8,
+    pub backward: bool,
+    pub repeat: bool,
+    pub due: bool,
+    /// old mode × 4 + new mode
+    pub actions: [u8; 16],
+}
+
+impl Track {
+    pub fn new(min: u32, max: u32) -> Track {
+        Track { min, max, start: min, end: max, position: min, loops: 1, due: true, ..Track::default() }
+    }
+
+    pub fn home(&self) -> u32 {
+        if self.backward { self.end } else { self.start }
+    }
+
+    pub fn far(&self) -> u32 {
+        if self.backward { self.start } else { self.end }
+    }
+
+    pub fn rewound(self) -> Track {
+        Track { position: self.home(), due: true, passes: 0, ..self }
+    }
+
+    /// The event of a change to a mode.
+    pub fn action(&self, new: u8) -> u8 {
+        self.actions[(self.mode * 4 + new) as usize & 15]
+    }
+
+    pub fn arrival(&self) -> u32 {
+        if self.due {
+            self.position
+        } else if self.position == self.far() {
+            self.home()
+        } else if self.backward {
+            self.position - 1
+        } else {
+            self.position + 1
+        }
+    }
+
+    /// Counts an arrival at far: whether the track stops there.
+    pub fn pass(&mut self) -> bool {
+        self.passes += 1;
+        !self.repeat && self.passes >= u32::from(self.loops)
+    }
+
+    pub fn sound(&self, clock: u32) -> bool {
+        self.min <= self.start
+            && self.start < self.end
+            && self.end <= self.max
+            && self.max <= COORDINATES
+            && self.start <= self.position
+            && self.position <= self.end
+            && self.loops >= 1
+            && self.passes <= clock
+            && self.mode <= WAITING
+            && self.actions[0] | self.actions[5] | self.actions[10] | self.actions[15] == 0
+    }
+
+    /// The number of locations in the span.
+    fn span(&self) -> u32 {
+        self.end - self.start + 1
+    }
+
+    /// The phase of the next arrival.
+    fn phase(&self) -> u32 {
+        let next = self.arrival();
+        if self.backward { self.end - next } else { next - self.start }
+    }
+
+    /// The fewest steps before one that reaches a point or stops the track.
+    pub fn quiet(&self, number: usize, keys: &[u32]) -> u64 {
+        self.before_stop().min(self.before_point((number as u32) << WIDTH, keys))
+    }
+
+    fn before_stop(&self) -> u64 {
+        if self.repeat {
+            return u64::MAX;
+        }
+        let arrivals = u32::from(self.loops).saturating_sub(self.passes).max(1);
+        u64::from(arrivals) * u64::from(self.span()) - u64::from(self.phase()) - 1
+    }
+
+    /// Further on in this pass, else from home in the next.
+    fn before_point(&self, base: u32, keys: &[u32]) -> u64 {
+        let rest = self.span() - self.phase();
+        let steps = match self.ahead(base, self.arrival(), keys) {
+            Some(steps) => Some(steps),
+            None => self.ahead(base, self.home(), keys).map(|steps| rest + steps),
+        };
+        steps.map_or(u64::MAX, u64::from)
+    }
+
+    /// The distance from a location to the nearest point at it or further on within the span.
+    fn ahead(&self, base: u32, from: u32, keys: &[u32]) -> Option<u32> {
+        let here = base + from;
+        if self.backward {
+            let slot = keys.partition_point(|&key| key <= here).checked_sub(1)?;
+            (keys[slot] >= base + self.start).then(|| here - keys[slot])
+        } else {
+            let key = *keys.get(keys.partition_point(|&key| key < here))?;
+            (key <= base + self.end).then(|| key - here)
+        }
+    }
+
+    /// So many steps at once (1 or more), over any number of passes; none of them reaches a point or stops.
+    pub fn leap(&mut self, steps: u32) {
+        let (span, reached) = (self.span(), self.phase() + steps);
+        self.passes += reached / span;
+        let phase = (reached - 1) % span;
+        self.position = if self.backward { self.end - phase } else { self.start + phase };
+        self.due = false;
+    }
+
+    pub fn enter(&mut self, new: u8) {
+        self.mode = new;
+        if new == STOPPED {
+            *self = self.rewound();
+        }
+    }
+
+    /// The track in the model's words.
+    pub fn plain(&self) -> track::Track {
+        let place = |coordinate: u32| i64::from(coordinate) - BIAS;
+        let cell = |from: usize, to: usize| i64::from(self.actions[from * 4 + to]);
+        track::Track {
+            min: place(self.min),
+            max: place(self.max),
+            start: place(self.start),
+            end: place(self.end),
+            position: place(self.position),
+            passes: self.passes.into(),
+            loops: self.loops.into(),
+            mode: self.mode.into(),
+            direction: self.backward.into(),
+            repeat: self.repeat.into(),
+            due: self.due.into(),
+            actions: std::array::from_fn(|from| std::array::from_fn(|to| cell(from, to))),
+        }
+    }
+}

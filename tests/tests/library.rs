@@ -1,0 +1,207 @@
+//! The proved library against the single-tick model on lists of calls: lent calls, the door, encoded lists, new cuts.
+//! GRIDSTEP_LISTS is the number of lists over all profiles.
+
+use gridstep_tests::against;
+use gridstep_tests::bench::Begun;
+use gridstep_tests::call::{Board, Call, Call::Advance, Reply};
+use gridstep_tests::cards;
+use gridstep_tests::gen::{Case, PROFILES, Profile, Rng, case, recut};
+use gridstep_tests::library::Library;
+use gridstep_tests::lists::{Tally, merged, observed, written};
+use gridstep_tests::model::Model;
+use gridstep_tests::traps;
+
+macro_rules! on_library {
+    ($($module:ident: $($name:ident)*;)*) => { $($(#[test] fn $name() { $module::$name::<Library>(); })*)* };
+}
+
+on_library! {
+    cards: a b c d e f g h i j k l;
+    traps: order traps leaps_the_clock;
+    against: other_logs long_leaps;
+}
+
+/// Lists of this file begin at this seed, so that they are no other file's.
+const SEED: u64 = 1_000_000;
+const LISTS: u64 = 20_000;
+/// Of a hundred lists, by profile; long lists are fewer.
+const SHARES: [u64; 7] = [19, 6, 19, 18, 19, 18, 1];
+/// Codes that are no call's.
+const NO_CALLS: [i64; 8] = [0, 21, -1, -11, i64::MIN, i64::MAX, 1 << 32 | 16, 256 + 15];
+
+/// Lists of all profiles.
+fn total() -> u64 {
+    std::env::var("GRIDSTEP_LISTS").map_or(LISTS, |number| number.parse().expect("GRIDSTEP_LISTS: a number"))
+}
+
+fn share(profile: Profile) -> u64 {
+    (total() * SHARES[profile as usize]).div_ceil(100)
+}
+
+/// A call's row, with noise in the numbers that it has no use for.
+fn noisy(call: Call, rng: &mut Rng) -> [i64; 7] {
+    let mut row = call.encode();
+    for at in 1..7 {
+        let mut other = row;
+        other[at] = rng.bits() as i64;
+        row = if Call::decode(&other) == Some(call) { other } else { row };
+    }
+    row
+}
+
+/// The rows of a list; here and there one before them that is no call.
+fn rows_of(calls: &[Call], rng: &mut Rng) -> Vec<[i64; 7]> {
+    let mut rows = Vec::new();
+    for &call in calls {
+        if rng.chance(2) {
+            rows.push([rng.pick(&NO_CALLS), 0, 1, 1, 1, 1, 1]);
+        }
+        rows.push(noisy(call, rng));
+    }
+    rows
+}
+
+/// The model's way through rows: what the library's ways are held against.
+struct Told {
+    replies: Vec<Reply>,
+    board: Model,
+    log: Vec<u8>,
+    tally: Tally,
+}
+
+/// Model, lent calls and door on one list: after each call the answer, the whole board and every log byte.
+fn side_by_side(name: &str, case: &Case, rows: &[[i64; 7]]) -> Told {
+    let mut board = Model::begun(case.clock);
+    let (mut lent, mut door) = (Library::begun(case.clock), Library::begun(case.clock));
+    let [mut log, mut lent_log, mut door_log] = [case.log.clone(), case.log.clone(), case.log.clone()];
+    let (mut replies, mut tally) = (Vec::new(), Tally::default());
+    for (nth, row) in rows.iter().enumerate() {
+        let place = || format!("{name}, row {nth}: {row:?}, {:?}", Call::decode(row));
+        let before = board.held as usize;
+        let reply = board.apply_encoded(row, &mut log);
+        assert_eq!(lent.apply_encoded(row, &mut lent_log).encode(), reply.encode(), "lent: {}", place());
+        assert_eq!(door.door(row, &mut door_log), reply.encode(), "door: {}", place());
+        assert!(lent.same(&board), "lent: {}: {:?}\n{board:?}", place(), lent.picture());
+        assert!(door == lent, "door: {}: {:?}\n{board:?}", place(), door.picture());
+        assert!(lent_log == log && door_log == log, "log: {}", place());
+        tally.note(reply, written(&log, before, board.held as usize));
+        replies.push(reply);
+    }
+    Told { replies, board, log, tally }
+}
+
+/// The encoded list: all replies, the end board and every log byte. Idle ticks bring a board to its clock.
+fn encoded(name: &str, case: &Case, rows: &[[i64; 7]], told: &Told) {
+    let idle = (case.clock > 0).then(|| (Advance(case.clock).encode(), Reply::Done(case.clock as u32)));
+    let calls: Vec<i64> = idle.iter().map(|(row, _)| row).chain(rows).flatten().copied().collect();
+    let expected: Vec<u64> =
+        idle.iter().map(|(_, reply)| reply).chain(&told.replies).flat_map(|reply| reply.encode()).collect();
+    let (mut log, mut replies) = (case.log.clone(), vec![u64::MAX; expected.len()]);
+    let end = Library::run(&calls, &mut log, &mut replies);
+    assert!(replies == expected, "{name}: the list's replies");
+    assert!(end.same(&told.board), "{name}: the list's end: {:?}\n{:?}", end.picture(), told.board);
+    assert!(log == told.log, "{name}: the list's log");
+}
+
+/// The list with its runs cut anew: what is seen of it, the end board and every log byte.
+fn cut_anew(name: &str, case: &Case, told: &Told, seed: u64) -> bool {
+    let calls = recut(&case.calls, seed);
+    assert_eq!(merged(&calls), merged(&case.calls));
+    let (mut library, mut log) = (Library::begun(case.clock), case.log.clone());
+    let replies: Vec<Reply> = calls.iter().map(|&call| library.apply(call, &mut log)).collect();
+    // Rows that are no calls are refused 9 and stand in no list.
+    let of_calls: Vec<Reply> = told.replies.iter().filter(|&&reply| reply != Reply::Refused(9)).copied().collect();
+    assert_eq!(observed(&calls, &replies), observed(&case.calls, &of_calls), "{name}: cut anew");
+    assert!(library.same(&told.board), "{name}: cut anew: {:?}\n{:?}", library.picture(), told.board);
+    assert!(log == told.log, "{name}: cut anew: log");
+    calls != case.calls
+}
+
+/// How much was compared.
+#[derive(Debug, Default)]
+struct Compared {
+    lists: u64,
+    calls: usize,
+    cut_anew: u64,
+    tally: Tally,
+}
+
+impl Compared {
+    fn list(&mut self, name: &str, case: &Case, seed: u64) {
+        let rows = rows_of(&case.calls, &mut Rng(seed));
+        let told = side_by_side(name, case, &rows);
+        encoded(name, case, &rows, &told);
+        self.cut_anew += u64::from(cut_anew(name, case, &told, seed));
+        self.tally.add(&told.tally);
+        self.calls += rows.len();
+        self.lists += 1;
+    }
+}
+
+fn lists_agree(profile: Profile) {
+    let mut compared = Compared::default();
+    for seed in SEED..SEED + share(profile) {
+        compared.list(&format!("{profile:?} list {seed}"), &case(profile, seed), seed);
+    }
+    println!("{profile:?}: {compared:?}");
+    assert!(compared.cut_anew >= compared.lists / 3);
+}
+
+macro_rules! profiles {
+    ($($name:ident: $profile:ident;)*) => { $(#[test] fn $name() { lists_agree(Profile::$profile); })* };
+}
+
+profiles! {
+    lists_typical: Typical;
+    lists_dense: Dense;
+    lists_edges: Edges;
+    lists_small_log: SmallLog;
+    lists_extremes: Extremes;
+    lists_queries: Queries;
+    lists_full: Full;
+}
+
+/// Logs of every length from 0 to 130 bytes; few ticks at once, since not every log fills.
+#[test]
+fn every_small_log() {
+    let mut compared = Compared::default();
+    for length in 0..=130 {
+        for (nth, profile) in (0..12).zip([Profile::Typical, Profile::Dense, Profile::Edges].into_iter().cycle()) {
+            let seed = 2 * SEED + length * 12 + nth;
+            let Case { clock, mut log, mut calls } = case(profile, seed);
+            log.truncate(length as usize);
+            calls.iter_mut().for_each(|call| *call = if let Advance(201..) = call { Advance(200) } else { *call });
+            compared.list(&format!("log of {length}, {profile:?} list {seed}"), &Case { clock, log, calls }, seed);
+        }
+    }
+    println!("small logs: {compared:?}");
+}
+
+/// Calls and replies that are not whole rows: as many rows as both have whole, and nothing past them is written.
+fn ragged(name: &str, case: &Case, rng: &mut Rng) -> usize {
+    let calls = rows_of(&case.calls, rng);
+    let length = rng.between(0, 7 * calls.len() as i64) as usize;
+    let room = rng.between(0, 4 * length as i64 + 60) as usize;
+    let rows = (length / 7).min(room / 28);
+    let told = side_by_side(name, case, &calls[..rows]);
+    let (mut log, mut replies, mut expected) = (case.log.clone(), vec![u64::MAX; room], vec![u64::MAX; room]);
+    let (places, _) = expected.as_chunks_mut();
+    places.iter_mut().zip(&told.replies).for_each(|(place, reply)| *place = reply.encode());
+    let end = Library::run(&calls.as_flattened()[..length], &mut log, &mut replies);
+    assert!(replies == expected, "{name}: {length} numbers, room for {room}");
+    assert!(end.same(&told.board) && log == told.log, "{name}: {length} numbers, room for {room}");
+    rows
+}
+
+#[test]
+fn ragged_lists() {
+    let (mut lists, mut calls) = (0, 0);
+    for (seed, profile) in (3 * SEED..3 * SEED + total() / 10).zip(PROFILES[..6].iter().cycle()) {
+        let case = case(*profile, seed);
+        if case.clock == 0 {
+            calls += ragged(&format!("{profile:?} list {seed}"), &case, &mut Rng(seed));
+            lists += 1;
+        }
+    }
+    println!("ragged: {lists} lists, {calls} calls");
+}
