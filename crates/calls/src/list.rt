@@ -39,7 +39,7 @@ pub fn answer(b: Board, row: Coded, log: &mut [u8]) -> Applied
 }
 
 // Row i is done, and its reply written.
-fn do_row(b: Board, calls: &[i64], i: usize, log: &mut [u8], replies: &mut [u64]) -> Board
+pub fn do_row(b: Board, calls: &[i64], i: usize, log: &mut [u8], replies: &mut [u64]) -> Board
     requires { ⌜ i * 7 + 7 ≤ length (now calls) ⌝ }
     requires { ⌜ i * 28 + 28 ≤ length (now replies) ⌝ }
     ensures { λ r. ⌜ RowDone (callAt (drop (i * 7) (now (calls .entry)))) (world b (now (log .entry))) (now (replies .entry)) (i * 28) r (now (log .exit)) (now (replies .exit)) ⌝ }
