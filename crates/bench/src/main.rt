@@ -134,14 +134,6 @@ fn same_numbers<'a>(a: &'a [u64], b: &'a [u64]) -> bool {
     true
 }
 
-// Whether two boards have the same clock and held.
-fn same_board(a: Board, b: Board) -> bool {
-    if a.clock.0 != b.clock.0 {
-        return false;
-    }
-    a.held == b.held
-}
-
 // The lesser of two.
 fn lesser(a: usize, b: usize) -> usize
     ensures { λ r. ⌜ (r ≤ a) × (r ≤ b) ⌝ }
@@ -151,7 +143,8 @@ fn lesser(a: usize, b: usize) -> usize
 
 // The kept calls as one list, on another log and with replies of their own.
 fn alike(
-    b: Board,
+    clock: u32,
+    held: u64,
     calls: &[i64],
     log: &[u8],
     replies: &[u64],
@@ -159,7 +152,10 @@ fn alike(
     told: &mut [u64],
 ) -> bool {
     let c = run_calls(calls, other, told);
-    if !same_board(b, c) {
+    if c.clock.0 != clock {
+        return false;
+    }
+    if c.held != held {
         return false;
     }
     if !same_bytes(log, other) {
@@ -176,7 +172,8 @@ fn again(b: Bench, calls: &[i64], log: &[u8], replies: &[u64]) -> bool {
     let many = lesser(b.rows, ROWS) * REPLY_WIDTH;
     let board = b.board;
     alike(
-        board,
+        board.clock.0,
+        board.held,
         calls,
         log,
         replies,

@@ -17,7 +17,7 @@ use Rattle.board.specs.declared.query.ClockRead.{ClockRead}
 use Rattle.board.specs.declared.query.TrackRead.{TrackRead}
 use Rattle.board.specs.declared.query.PointRead.{PointRead}
 use Rattle.board.specs.declared.query.CountRead.{CountRead}
-use Rattle.motion.specs.declared.advance.Progress.{Progress}
+use Rattle.advance.specs.declared.Progress.{Progress}
 use Rattle.motion.specs.declared.advance.Advanced.{Advanced}
 use Rattle.motion.specs.declared.advance.Advanced.the-variants as advanced
 use Rattle.motion.specs.declared.call.Call.{Call}
@@ -48,7 +48,7 @@ use Rattle.motion.proofs.modes.play.Reads as play-says
 use Rattle.motion.proofs.modes.pause.Reads as pause-says
 use Rattle.motion.proofs.modes.resume.Reads as resume-says
 use Rattle.motion.proofs.modes.stop.Reads as stop-says
-use Rattle.motion.proofs.advance.advance.Reads as advance-says
+use Rattle.advance.proofs.advance.Reads as advance-says
 use Rattle.board.proofs.Board.clear.Reads as clear-says
 use Rattle.board.proofs.Board.clock_and_held.Reads as clock-says
 use Rattle.board.proofs.Board.track.Reads as track-says

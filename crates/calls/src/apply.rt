@@ -1,4 +1,6 @@
 // One call on a board and its log.
+use advance::Progress;
+use advance::advance;
 use board::Board;
 use board::query::ClockRead;
 use board::query::CountRead;
@@ -6,8 +8,6 @@ use board::query::PointRead;
 use board::query::TrackRead;
 use board::setup::Outcome;
 use motion::advance::Advanced;
-use motion::advance::Progress;
-use motion::advance::advance;
 use motion::call::Call;
 use motion::modes::pause;
 use motion::modes::play;

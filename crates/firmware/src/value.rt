@@ -105,7 +105,7 @@ fn ending_of(a: Advanced) -> Ending
 pub fn advance(b: Board, count: i64, log: &mut [u8]) -> Ended
     ensures { λ r. ⌜ Gives (does (call.Advance count) (world b (now (log .entry)))) (endingSaid (r .ending)) (r .board) (now (log .exit)) ⌝ }
 {
-    let r = motion::advance::advance(b, count, log);
+    let r = advance::advance(b, count, log);
     let board = r.board;
     let answer = r.answer;
     let ending = ending_of(answer);

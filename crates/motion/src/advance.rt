@@ -1,6 +1,5 @@
 // Ticks: empty stretches are leapt, and a tick is kept if its records fit.
 use board::Board;
-use board::rules::unbroken;
 use points::Points;
 use record::Record;
 use tick::commit;
@@ -13,9 +12,6 @@ use tick::run_commands;
 use tick::step_member;
 use track::Ticks;
 use track::Track;
-use track::number::Natural;
-use track::number::in_range;
-use track::setup::Answer;
 ghost use mathlib.Core.Path.{_≡_};
 ghost use mathlib.Core.Bool.{true};
 ghost use Prim.Native.Nat.{_≤_};
@@ -24,8 +20,7 @@ ghost use Rattle.board.specs.Rule.{unbrokenTest};
 ghost use Rattle.mode.specs.Ruling.{capacity};
 ghost use Rattle.replay.specs.Cut.{ticks};
 ghost use Rattle.replay.specs.Replay.{w-halt, w-step};
-ghost use Rattle.motion.specs.Does.{Gives, does, world, gridstep, advancedSaid, Ended};
-ghost use Rattle.motion.specs.declared.call.Call.the-variants as call;
+ghost use Rattle.motion.specs.Does.{world, gridstep, Ended};
 
 // What an advance answers: why it ended, with the ticks taken, or a refusal's number.
 pub enum Advanced {
@@ -35,21 +30,16 @@ pub enum Advanced {
     Refused(u8),
 }
 
-pub struct Progress {
-    pub answer: Advanced,
-    pub board: Board,
-}
-
 // Where ticks left off: what a tick changes of a board.
-struct Left {
-    answer: Advanced,
-    tracks: [Track; Board::TRACKS],
-    clock: u32,
-    held: usize,
+pub struct Left {
+    pub answer: Advanced,
+    pub tracks: [Track; Board::TRACKS],
+    pub clock: u32,
+    pub held: usize,
 }
 
 // So many ticks of an unbroken board, unless the clock or the log ends them.
-fn run(b: Board, count: u32, log: &mut [u8]) -> Left
+pub fn run(b: Board, count: u32, log: &mut [u8]) -> Left
     requires { ⌜ unbrokenTest b ≡ true ⌝ }
     requires { ⌜ b .held ≤ capacity (length (now log)) ⌝ }
     ensures { λ r. ⌜ Ended b (ticks (w-halt gridstep) (w-step gridstep) count (world b (now (log .entry)))) r (now (log .exit)) ⌝ }
@@ -124,45 +114,4 @@ fn run(b: Board, count: u32, log: &mut [u8]) -> Left
         clock,
         held,
     }
-}
-
-// Advances by a count of ticks, 0 to 4,294,967,295.
-pub fn advance(b: Board, count: i64, log: &mut [u8]) -> Progress
-    ensures { λ r. ⌜ Gives (does (call.Advance count) (world b (now (log .entry)))) (advancedSaid (r .answer)) (r .board) (now (log .exit)) ⌝ }
-{
-    let tracks = b.tracks;
-    if !unbroken(
-        tracks,
-        b.present,
-        b.clock,
-        &b.points.keys,
-        &b.points.infos,
-        b.points.count,
-    ) {
-        return Progress {
-            answer: Advanced::Refused(Answer::VALUE),
-            board: b,
-        };
-    }
-    let capacity = (log.len() / Record::WIDTH) as u64;
-    if capacity < b.held {
-        return Progress {
-            answer: Advanced::Refused(Board::CAPACITY),
-            board: b,
-        };
-    }
-    let Natural::In(n) = in_range(count, 0, 4294967295) else {
-        return Progress {
-            answer: Advanced::Refused(Answer::VALUE),
-            board: b,
-        };
-    };
-    let left = run(b, n, log);
-    let answer = left.answer;
-    let after = left.tracks;
-    let mut board = b;
-    board.tracks = after;
-    board.clock.0 = left.clock;
-    board.held = left.held as u64;
-    Progress { answer, board }
 }

@@ -1,7 +1,7 @@
 use Rattle.motion.proofs.Advancing.{advance-broken, advance-short, advance-outside, advance-runs}
-use Rattle.motion.proofs.advance.advance.Statement.{statement}
-use Rattle.motion.proofs.advance.advance.Tie as tie
+use Rattle.advance.proofs.advance.Statement.{statement}
+use Rattle.advance.proofs.advance.Tie as tie
 use Rattle.motion.specs.Does.{most}
 use Rattle.board.specs.Rule.{unbrokenTest}
 use Rattle.track.proofs.Numbers.{told}
 use Rattle.track.specs.Number.{naturalOf}
