@@ -3,7 +3,6 @@
 //   0 L          a fresh board, and a log of L bytes, each 165
 //   30 to 44     a field set by force (poke.rt)
 //   50           the held records, then end,clock,held
-//   51           the calls since code 0 as one encoded list: same,1 if board, log and replies come to the same
 //   52 a b       calls a to b of those since code 0 on the board at hand: the number of each, 0 accepted; an
 //                accepted one is undone
 use crate::poke::limited;
@@ -20,7 +19,6 @@ use crate::show::reply;
 use crate::show::text;
 use board::Board;
 use calls::list::do_row;
-use calls::list::run_calls;
 use calls::rows::CALL_WIDTH;
 use calls::rows::REPLY_WIDTH;
 use libc::STDIN_FILENO;
@@ -104,90 +102,11 @@ fn try_calls(
     c
 }
 
-// Whether two logs have the same bytes.
-fn same_bytes<'a>(a: &'a [u8], b: &'a [u8]) -> bool {
-    if a.len() != b.len() {
-        return false;
-    }
-    let mut i: usize = 0;
-    while i < a.len() {
-        if a[i] != b[i] {
-            return false;
-        }
-        i += 1;
-    }
-    true
-}
-
-// Whether numbers begin with others.
-fn same_numbers<'a>(a: &'a [u64], b: &'a [u64]) -> bool {
-    if a.len() < b.len() {
-        return false;
-    }
-    let mut i: usize = 0;
-    while i < b.len() {
-        if a[i] != b[i] {
-            return false;
-        }
-        i += 1;
-    }
-    true
-}
-
 // The lesser of two.
 fn lesser(a: usize, b: usize) -> usize
     ensures { λ r. ⌜ (r ≤ a) × (r ≤ b) ⌝ }
 {
     if a < b { a } else { b }
-}
-
-// The kept calls as one list, on another log and with replies of their own.
-fn alike(
-    clock: u32,
-    held: u64,
-    calls: &[i64],
-    log: &[u8],
-    replies: &[u64],
-    other: &mut [u8],
-    told: &mut [u64],
-) -> bool {
-    let c = run_calls(calls, other, told);
-    if c.clock.0 != clock {
-        return false;
-    }
-    if c.held != held {
-        return false;
-    }
-    if !same_bytes(log, other) {
-        return false;
-    }
-    same_numbers(replies, told)
-}
-
-// Code 51.
-fn again(b: Bench, calls: &[i64], log: &[u8], replies: &[u64]) -> bool {
-    let mut other = [165u8; 4096];
-    let mut told = [0u64; 8960];
-    let bytes = lesser(log.len(), 4096);
-    let many = lesser(b.rows, ROWS) * REPLY_WIDTH;
-    let board = b.board;
-    alike(
-        board.clock.0,
-        board.held,
-        calls,
-        log,
-        replies,
-        &mut other[..bytes],
-        &mut told[..many],
-    )
-}
-
-fn told_again(same: bool) {
-    if same {
-        text(b"same,1\n");
-    } else {
-        text(b"same,0\n");
-    }
 }
 
 // The board with a field set by force.
@@ -233,10 +152,6 @@ fn step(b: Bench, code: u32, calls: &[i64], log: &mut [u8], replies: &mut [u64])
     if code == 50 {
         let board = b.board;
         held_records(board, log);
-        return b;
-    }
-    if code == 51 {
-        told_again(again(b, calls, log, replies));
         return b;
     }
     if code == 52 {
