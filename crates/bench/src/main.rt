@@ -1,5 +1,5 @@
 // A bench for boards: lines of numbers are calls, done one after another, and their replies are printed as
-// numbers. `#` begins a title. Codes 1 to 20 are the calls (crate calls, rows.rt). Other codes:
+// numbers. `#` begins a title. Codes 1 to 20 are the calls (crate encoding, call.rt). Other codes:
 //   0 L          a fresh board, and a log of L bytes, each 165
 //   30 to 44     a field set by force (poke.rt)
 //   50           the held records, then end,clock,held
@@ -18,9 +18,9 @@ use crate::show::refusal;
 use crate::show::reply;
 use crate::show::text;
 use board::Board;
-use calls::list::do_row;
-use calls::rows::CALL_WIDTH;
-use calls::rows::REPLY_WIDTH;
+use calls::row::do_row;
+use encoding::call::CALL_WIDTH;
+use encoding::reply::REPLY_WIDTH;
 use libc::STDIN_FILENO;
 ghost use Prim.Native.Nat.{_≤_};
 ghost use mathlib.Core.Path.{_≡_};

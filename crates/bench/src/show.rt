@@ -1,6 +1,6 @@
 // What is printed: replies as their numbers, and a log's records.
 use board::Board;
-use calls::rows::REPLY_WIDTH;
+use encoding::reply::REPLY_WIDTH;
 use libc::STDOUT_FILENO;
 use record::Record;
 use record::Unpacked;

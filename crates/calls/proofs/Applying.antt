@@ -23,7 +23,8 @@ use Rattle.motion.specs.Does.{world, Gives}
 use Rattle.motion.proofs.Machine.{counts}
 use Rattle.replay.specs.Replay.{World, wrote}
 use Rattle.calls.specs.declared.apply.Applied.{Applied}
-use Rattle.calls.specs.Told.{replyOf, Says}
+use Rattle.encoding.specs.Told.{replyOf}
+use Rattle.calls.specs.Applied.{Says}
 
 -- ---- a call, as its function's contract has it: a mode call's and an advance's say this themselves
 

@@ -1,4 +1,1 @@
-pub mod Told
-pub mod Arrivals
-pub mod Lists
-pub mod Encoded
+pub mod Applied

@@ -7,34 +7,20 @@ use board::query::CountRead;
 use board::query::PointRead;
 use board::query::TrackRead;
 use board::setup::Outcome;
+use encoding::told::Told;
 use motion::advance::Advanced;
 use motion::call::Call;
 use motion::modes::pause;
 use motion::modes::play;
 use motion::modes::resume;
 use motion::modes::stop;
-use points::Point;
 use track::Coordinate;
-use track::Ticks;
 use track::Track;
 use track::setup::Answer;
 ghost use mathlib.Core.Path.{_≡_};
 ghost use Rattle.motion.specs.Does.{Gives, does, world, answered, advancedSaid, clockSaid, trackSaid, pointSaid, countSaid};
-ghost use Rattle.calls.specs.Told.{replyOf, Says};
-
-// What a call tells; a track that is told stands beside it, since an enum cannot hold the track's array.
-pub enum Told {
-    Accepted,
-    Refused(u8),
-    Done(Ticks),
-    LogFull(Ticks),
-    ClockEnd(Ticks),
-    // Clock and held.
-    Clock(Ticks, u64),
-    Track,
-    Point(Point),
-    Count(u64),
-}
+ghost use Rattle.encoding.specs.Told.{replyOf};
+ghost use Rattle.calls.specs.Applied.{Says};
 
 // What a call tells, and the board after it.
 pub struct Applied {

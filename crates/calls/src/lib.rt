@@ -1,4 +1,3 @@
-// Calls as values and as rows of numbers, and lists of them (demand 3).
+// One call on a board and its log: by value, and by its row of numbers.
 pub mod apply;
-pub mod list;
-pub mod rows;
+pub mod row;

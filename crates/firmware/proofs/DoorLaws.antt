@@ -8,10 +8,10 @@ use Rattle.board.specs.declared.Board.{Board}
 use Rattle.replay.specs.Replay.{World}
 use Rattle.motion.specs.declared.call.Call.{Call}
 use Rattle.motion.specs.Does.{Gives}
-use Rattle.calls.specs.declared.apply.Told.{Told}
-use Rattle.calls.specs.declared.rows.Coded.{Coded}
-use Rattle.calls.specs.Told.{replyOf}
-use Rattle.calls.specs.Encoded.{codedAs, numbersOf, rowDoes}
+use Rattle.encoding.specs.declared.told.Told.{Told}
+use Rattle.encoding.specs.declared.call.Coded.{Coded}
+use Rattle.encoding.specs.Told.{replyOf}
+use Rattle.encoding.specs.Encoded.{codedAs, numbersOf, rowDoes}
 use Rattle.firmware.specs.Door.{RowGives}
 
 pub door-answers : (row : Coded) (o : Option Call) (w : World Board) (told : Told) (track : Track) (board : Board) (reply log : List ℕ)

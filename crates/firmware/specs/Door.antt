@@ -6,7 +6,7 @@ use Rattle.board.specs.declared.Board.{Board}
 use Rattle.replay.specs.Cut.{Did}
 use Rattle.replay.specs.Replay.{World}
 use Rattle.motion.specs.Does.{Reply}
-use Rattle.calls.specs.Encoded.{numbersOf}
+use Rattle.encoding.specs.Encoded.{numbersOf}
 use Rattle.firmware.specs.declared.door.Replied.{Replied}
 
 -- the numbers of the reply, the board and every log byte are those that a row gives

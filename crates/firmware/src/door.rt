@@ -1,13 +1,14 @@
 // One door for every call and query, by its row of numbers, and for an encoded list of them.
 use board::Board;
-use calls::list::answer;
-use calls::list::run_calls;
-use calls::rows::REPLY_WIDTH;
-use calls::rows::call_of;
-use calls::rows::reply_row;
+use calls::row::answer;
+use encoding::call::call_of;
+use encoding::reply::REPLY_WIDTH;
+use encoding::reply::reply_row;
+use lists::run_calls;
 ghost use mathlib.Core.Path.{_≡_};
 ghost use Rattle.motion.specs.Does.{world};
-ghost use Rattle.calls.specs.Encoded.{callOf, rowDoes, Executed};
+ghost use Rattle.encoding.specs.Encoded.{callOf, rowDoes};
+ghost use Rattle.lists.specs.Executed.{Executed};
 ghost use Rattle.firmware.specs.Door.{RowGives};
 
 // The board after a call, and the numbers of its reply.

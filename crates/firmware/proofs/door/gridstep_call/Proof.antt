@@ -2,7 +2,7 @@ use borrow.Author.Needs.{needs}
 use denote.Ref.{now}
 use mathlib.Core.Path.{_∙_}
 use mir.Facts.{toZ-ofZ}
-use Rattle.calls.specs.Encoded.{callOf}
+use Rattle.encoding.specs.Encoded.{callOf}
 use Rattle.motion.specs.Does.{world}
 use Rattle.firmware.proofs.DoorLaws.{door-answers}
 use Rattle.firmware.proofs.door.gridstep_call.Statement.{statement}

@@ -1,0 +1,5 @@
+pub mod Runs
+pub mod Cards
+pub mod Reports
+pub mod Lists
+pub mod Executing
