@@ -1,0 +1,5 @@
+pub mod Paths
+pub mod Ticks
+pub mod Calls
+pub mod Enabled
+pub mod Published

@@ -1,0 +1,3 @@
+pub mod Automaton
+pub mod Acts
+pub mod Published
