@@ -1,0 +1,5 @@
+pub mod Digits
+pub mod Words
+pub mod Fields
+pub mod Rows
+pub mod Examples

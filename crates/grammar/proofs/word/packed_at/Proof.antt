@@ -1,0 +1,19 @@
+use Rattle.grammar.specs.Scan.{packed}
+use Rattle.grammar.specs.Grammar.{Form, forms, noForm}
+use Rattle.grammar.proofs.Words.{getD-map-below}
+use borrow.Author.Needs.{needs}
+use Rattle.grammar.proofs.word.packed_at.Statement.{statement}
+use Rattle.grammar.proofs.word.packed_at.Tie as tie
+
+mul-result : tie.Need-mul-result
+mul-result c = search needs
+
+array-read-result : tie.Need-array-read-result
+array-read-result c = search needs
+
+returns : tie.Need-returns
+unfolding forms packed
+returns c = getD-map-below (λ (f : Form). packed (f .word)) forms (c .args .k) noForm 0 (search needs)
+
+pub packed-at-spec : {M : Type 1} → statement M
+packed-at-spec = tie.close (tie.spec mul-result array-read-result returns)

@@ -1,0 +1,78 @@
+// The lines that the runner prints (01, "Script lines").
+use crate::Out;
+use encoding::told::Told;
+use record::Record;
+ghost use mathlib.Core.Path.{_≡_};
+ghost use Prim.Native.Nat.{_≤_};
+ghost use Rattle.track.specs.declared.Track.{Track};
+ghost use Rattle.encoding.specs.Told.{replyOf};
+ghost use Rattle.output.specs.Output.{refusedLine, shortLine, endLine, recordHead, recordLine, noteOf, textOf};
+
+pub fn refused_line(line: u64, number: u8) -> Out
+    ensures { λ r. ⌜ textOf r ≡ refusedLine line number ⌝ }
+{
+    let word = [b'r', b'e', b'f', b'u', b's', b'e', b'd', b','];
+    let o = Out::new();
+    let w = o.push_from(&word, 0);
+    let l = w.number(line, b',');
+    l.number(number as u64, b'\n')
+}
+
+pub fn short_line(line: u64, taken: u32, reason: u8) -> Out
+    ensures { λ r. ⌜ textOf r ≡ shortLine line taken reason ⌝ }
+{
+    let word = [b's', b'h', b'o', b'r', b't', b','];
+    let o = Out::new();
+    let w = o.push_from(&word, 0);
+    let l = w.number(line, b',');
+    let t = l.number(taken as u64, b',');
+    t.number(reason as u64, b'\n')
+}
+
+pub fn end_line(clock: u32, held: u64) -> Out
+    ensures { λ r. ⌜ textOf r ≡ endLine clock held ⌝ }
+{
+    let word = [b'e', b'n', b'd', b','];
+    let o = Out::new();
+    let w = o.push_from(&word, 0);
+    let c = w.number(clock as u64, b',');
+    c.number(held, b'\n')
+}
+
+// A record's numbers but for its position and passes.
+fn record_head(r: Record) -> Out
+    ensures { λ o. ⌜ (textOf o ≡ recordHead r) × (o .length ≤ 105) ⌝ }
+{
+    let o = Out::new();
+    let a = o.number(r.clock.0 as u64, b',');
+    let b = a.number(r.track as u64, b',');
+    let c = b.number(r.kind as u64, b',');
+    let d = c.number(r.event as u64, b',');
+    d.number(r.detail as u64, b',')
+}
+
+pub fn record_line(r: Record) -> Out
+    ensures { λ o. ⌜ textOf o ≡ recordLine r ⌝ }
+{
+    let h = record_head(r);
+    let p = r.position;
+    let o = h.position(p);
+    o.number(r.passes.0 as u64, b'\n')
+}
+
+// What is printed of a line's answer: a refusal, or an advance that stopped short.
+pub fn note(line: u64, told: Told) -> Out
+    ensures { λ r. ⌜ ((t : Track) → textOf r ≡ noteOf line (replyOf told t)) ⌝ }
+{
+    match told {
+        Told::Refused(n) => refused_line(line, n),
+        Told::LogFull(n) => short_line(line, n.0, 1),
+        Told::ClockEnd(n) => short_line(line, n.0, 2),
+        Told::Accepted => Out::new(),
+        Told::Done(n) => Out::new(),
+        Told::Clock(c, held) => Out::new(),
+        Told::Track => Out::new(),
+        Told::Point(p) => Out::new(),
+        Told::Count(n) => Out::new(),
+    }
+}
