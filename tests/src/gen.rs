@@ -133,6 +133,14 @@ pub fn case(profile: Profile, seed: u64) -> Case {
     Case { clock, log, calls: maker.calls }
 }
 
+/// A list of so many calls after the set-up, for a fresh board and a log of so many bytes.
+pub fn long(profile: Profile, seed: u64, calls: i64, bytes: usize) -> Vec<Call> {
+    let (rng, plan) = (Rng(seed), Plan { calls, ..plan(profile) });
+    let mut maker = Maker { rng, plan, board: Model::fresh(), log: vec![0; bytes], calls: Vec::new() };
+    maker.fill();
+    maker.calls
+}
+
 impl Maker {
     fn fill(&mut self) {
         for _ in 0..self.rng.between(self.plan.tracks / 3, self.plan.tracks) {

@@ -12,5 +12,6 @@ pub mod model;
 pub mod peer;
 pub mod plot;
 pub mod record;
+pub mod script;
 pub mod track;
 pub mod traps;
