@@ -10,15 +10,17 @@ use gridstep_tests::script::{malformed, output};
 use std::io::{Read, Write};
 use std::process::{Command, Stdio};
 use std::thread;
+use std::time::Duration;
 
 /// Single ticks beyond this clock are too many for the model; the leaping peer is held against it up to here.
 const WITHIN_REACH: u64 = 400_000;
 /// Scripts of each kind, and lines of each.
 const SCRIPTS: u64 = 21;
 const LINES: i64 = 2_500;
+const PAUSE: Duration = Duration::from_micros(50);
 
 /// Writes the input in pieces of at most so many bytes, while what the program prints is read.
-/// Answers with that and whether it ended well.
+/// A short input goes slowly, so that the pieces are read apart. Answers with what is printed and whether it ended well.
 fn printed_by(command: &mut Command, input: &[u8], piece: usize, rng: &mut Rng) -> (Vec<u8>, bool) {
     let mut child = command.stdin(Stdio::piped()).stdout(Stdio::piped()).spawn().expect("the program starts");
     let (mut stdin, mut stdout) = (child.stdin.take().expect("a pipe"), child.stdout.take().expect("a pipe"));
@@ -29,6 +31,7 @@ fn printed_by(command: &mut Command, input: &[u8], piece: usize, rng: &mut Rng) 
             while !rest.is_empty() {
                 let (first, others) = rest.split_at(rest.len().min(rng.between(1, piece as i64) as usize));
                 stdin.write_all(first).expect("the program reads all");
+                thread::sleep(if input.len() < 5_000 { PAUSE } else { Duration::ZERO });
                 rest = others;
             }
         });
