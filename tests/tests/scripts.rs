@@ -7,8 +7,9 @@ use gridstep_tests::peer::Peer;
 use gridstep_tests::script::made::{FULL_LOG, KINDS, Kind, script};
 use gridstep_tests::script::stored::{folder, read, runner, scripts};
 use gridstep_tests::script::{malformed, output};
-use std::io::{Read, Write};
+use std::io::{BufRead, BufReader, Read, Write};
 use std::process::{Command, Stdio};
+use std::sync::mpsc;
 use std::thread;
 use std::time::Duration;
 
@@ -100,6 +101,25 @@ fn runner_on_extremes() {
     hold("many lines", &many, many.len(), &expected("many lines", &many).0);
     let long = [b"advance,".as_slice(), &b"1".repeat(300_000), b"\nadvance,2\n"].concat();
     hold("a long line", &long, 5_000, "refused,1,9\nend,2,0\n");
+}
+
+/// Refusals and shortfalls are printed as they come: before the next line is written.
+#[test]
+fn runner_as_lines_come() {
+    let mut command = Command::new(runner());
+    let mut child = command.stdin(Stdio::piped()).stdout(Stdio::piped()).spawn().expect("the runner starts");
+    let (mut stdin, stdout) = (child.stdin.take().expect("a pipe"), child.stdout.take().expect("a pipe"));
+    let (said, heard) = mpsc::channel();
+    let reader = thread::spawn(move || BufReader::new(stdout).lines().try_for_each(|line| said.send(line)));
+    let talk = [("play,0\n", "refused,1,1"), ("\n", "refused,2,9"), ("advance,1000000001\n", "short,3,1000000000,2")];
+    for (line, answer) in talk {
+        stdin.write_all(line.as_bytes()).expect("the runner reads");
+        let printed = heard.recv_timeout(Duration::from_secs(20)).expect("an answer before the next line");
+        assert_eq!(printed.expect("a line"), answer);
+    }
+    drop(stdin);
+    assert_eq!(heard.recv().expect("the end").expect("a line"), "end,1000000000,0");
+    assert!(child.wait().expect("it ends").success() && reader.join().expect("all is read").is_ok());
 }
 
 /// The launcher: one run for each script, standard input for `-` and for no script, a script that is not there.
