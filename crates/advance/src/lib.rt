@@ -47,7 +47,17 @@ pub fn advance(b: Board, count: i64, log: &mut [u8]) -> Progress
             board: b,
         };
     };
-    let left = run(b, n, log);
+    let left = run(
+        tracks,
+        b.present,
+        &b.points.keys,
+        &b.points.infos,
+        b.points.count,
+        b.clock.0,
+        b.held as usize,
+        n,
+        log,
+    );
     let answer = left.answer;
     let after = left.tracks;
     let mut board = b;

@@ -33,7 +33,7 @@ use Rattle.tick.proofs.Players.{some-playing, some-member}
 use Rattle.tick.proofs.LeapLaws.{leap-into, leap-tracks-long, leap-tracks-word, leap-tracks-min, leap-tracks-max, leap-tracks-sound, some-leapt, unbroken-able, unbroken-telling}
 use Rattle.tick.proofs.Steps.{members-most}
 use Rattle.motion.proofs.Machine.{halt-none, tick-whole}
-use Rattle.motion.proofs.Advancing.{going-start, going-leap}
+use Rattle.motion.proofs.Advancing.{going-start, going-leap, calm-none}
 use Rattle.motion.proofs.Walked.{tick-starts, walked-tick}
 
 -- ---- a leap
@@ -265,11 +265,6 @@ module _ (ks : List ℕ) (ts : List Track) where
       go true e rest = inl (inl e)
       go false e rest = ⊎-elim (λ s. inl (inr s)) (λ n. inr (e, n)) rest
 
-  calm-none : (is : List ℕ) → Each (λ i. Calm ks 0 i (trackAt ts i)) is
-  unfolding Each
-  calm-none [] = tt
-  calm-none (i ∷ is) = (λ j h. absurd (omega arith), calm-none is)
-
   calm-next : (r : ℕ) (is : List ℕ) → Each (λ i. Calm ks r i (trackAt ts i)) is → Each (λ i. loud ks i (leap (trackAt ts i) r) ≡ false) is
       → Each (λ i. Calm ks (suc r) i (trackAt ts i)) is
   unfolding Each
@@ -281,7 +276,7 @@ module _ (ks : List ℕ) (ts : List Track) where
   )
 
   fewest : (a : ℕ) (is : List ℕ) → (r : ℕ) × Fewest ks ts is a r
-  fewest zero is = (0, record { small = omega arith; quiet = calm-none is; exact = λ h. absurd (omega arith) })
+  fewest zero is = (0, record { small = omega arith; quiet = calm-none ks ts is; exact = λ h. absurd (omega arith) })
   fewest (suc a) is = go (fewest a is .0) (fewest a is .1)
     where
       go : (r : ℕ) → Fewest ks ts is a r → (r : ℕ) × Fewest ks ts is (suc a) r

@@ -44,13 +44,19 @@ returns-3 : tie.Need-returns-3
 returns-3 c = advance-outside (c .before .before .before .before .before .before .before .before .before .before .before .before .before .before .args .t1) _ _ (whole (c .before .before .before .before)) (c .before .before .before .if2 .left) (told number (c .before .before .before .before .before .before .before .before .before .before .before .before .before .before .fits .count) (c .before .before .in-range .ensures) (c .enum-told .given .1))
 
 run-requires : tie.Need-run-requires
-run-requires c κs = (whole (c .before .before .before .before .before .before), c .before .before .before .before .before .if2 .left)
+run-requires c κs =
+    let e = c .before .before .before .before .before .before .before .before .before .before .before in
+    ((search needs, search needs), (whole e, c .before .before .before .before .before .before .before .before .before .before .if2 .left))
 
 same-length : tie.Need-same-length
 same-length c = search needs
 
 returns-4 : tie.Need-returns-4
-returns-4 c = advance-runs (c .before .before .before .before .before .before .before .before .before .before .before .before .before .before .before .before .before .before .before .before .before .args .t1) _ _ (whole (c .before .before .before .before .before .before .before .before .before .before .before)) (c .before .before .before .before .before .before .before .before .before .before .if2 .left) (told number (c .before .before .before .before .before .before .before .before .before .before .before .before .before .before .before .before .before .before .before .before .before .fits .count) (c .before .before .before .before .before .before .before .before .before .in-range .ensures) (c .before .before .before .before .before .before .before .n .given .1)) (c .before .before .before .before .run .ensures)
+returns-4 c =
+    let e = c .before .before .before .before .before .before .before .before .before .before .before .before .before .before .before .before in
+    let s = start e in
+    advance-runs (s .args .t1) _ _ (whole e) (c .before .before .before .before .before .before .before .before .before .before .before .before .before .before .before .if2 .left) (told number (s .fits .count) (c .before .before .before .before .before .before .before .before .before .before .before .before .before .before .in-range .ensures) (c .before .before .before .before .before .before .before .before .before .before .before .before .n .given .1))
+    (c .before .before .before .before .run .ensures)
 
 pub advance-spec : {M : Type 1} → statement M
 advance-spec =
