@@ -243,17 +243,6 @@ advanceBy n = call.Advance (pos n)
 abbrev pub does : Call → World Board → Did Reply (World Board)
 does c w = perform gridstep (part most countOf advanceBy c) w
 
--- a board of its parts
-abbrev pub boardOf : List Track → ℕ → List ℕ → List ℕ → ℕ → ℕ → ℕ → Board
-boardOf tracks present keys infos count clock held =
-    record {
-      tracks = tracks;
-      present = present;
-      points = record { keys = keys; infos = infos; count = count };
-      clock = record { 0 = clock };
-      held = held;
-    }
-
 abbrev pub world : Board → List ℕ → World Board
 world b log = record { board = b; log = log }
 

@@ -19,10 +19,10 @@ ghost use Prim.Native.Nat.{_≤_};
 ghost use lib.ListN.{length};
 ghost use Rattle.points.specs.Points.{pointMost};
 ghost use Rattle.board.specs.Rule.{unbrokenTest};
-ghost use Rattle.mode.specs.Ruling.{capacity};
+ghost use Rattle.mode.specs.Ruling.{boardOf, capacity};
 ghost use Rattle.replay.specs.Cut.{ticks};
 ghost use Rattle.replay.specs.Replay.{w-halt, w-step};
-ghost use Rattle.motion.specs.Does.{boardOf, world, gridstep, Ended};
+ghost use Rattle.motion.specs.Does.{world, gridstep, Ended};
 
 // What an advance answers: why it ended, with the ticks taken, or a refusal's number.
 pub enum Advanced {
@@ -81,10 +81,10 @@ pub fn run<'a>(
             calm = smaller(stretch.0, most);
         }
         if calm == most {
-            let moved = leapt(tracks, word, Ticks(calm));
+            let moved = leapt(tracks, word, Ticks(most));
             tracks = moved;
-            clock += calm;
-            taken += calm;
+            clock += most;
+            taken += most;
             answer = Advanced::Done(Ticks(taken));
             continue 'ticks;
         }

@@ -1,6 +1,6 @@
 use Prim.Native.Nat.{ℕ, _+_, _-_, _*_, _≤_, _<_}
 use Rattle.motion.proofs.Advancing.{Going, going-start, going-ends, going-full, going-done, going-tick, going-leap, boardAt, stageOf, go, whole-points, calm-none, leap-is}
-use Rattle.motion.specs.Does.{boardOf, world, Ended}
+use Rattle.motion.specs.Does.{world, Ended}
 use Rattle.motion.specs.declared.advance.Advanced.the-variants.{Done, LogFull}
 use Rattle.tick.proofs.Bits.{Lowest, cleared}
 use Rattle.board.proofs.Broken.{Shaped, unbroken-of}
@@ -19,7 +19,7 @@ use Rattle.record.specs.Record.{recordWidth, logBytes}
 use Rattle.board.specs.declared.Board.{Board}
 use Rattle.board.specs.Rule.{Unbroken, trackAt}
 use Rattle.tick.specs.Tick.{Stage, InfoRule, playingWord}
-use Rattle.mode.specs.Ruling.{capacity}
+use Rattle.mode.specs.Ruling.{boardOf, capacity}
 use Rattle.tick.specs.Word.{members}
 use Rattle.tick.specs.declared.Staged.{Staged}
 use Rattle.track.specs.declared.Track.{Track}
@@ -228,38 +228,34 @@ smaller-requires-2 : tie.Need-smaller-requires-2 Inv-loop μ-loop Inv-ticks μ-t
 smaller-requires-2 c κs = search needs
 
 leapt-requires : tie.Need-leapt-requires Inv-loop μ-loop Inv-ticks μ-ticks
-leapt-requires c κs = 
-    let f = fewer (c .before) in
-    (able (turn (c .before)), omega (arith, c .before .before .smaller .ensures))
+leapt-requires c κs = (able (turn (c .before)), omega (arith, c .before .before .smaller .ensures))
 
 add-clock : tie.Need-add-clock Inv-loop μ-loop Inv-ticks μ-ticks
 add-clock c = 
-    let j = c .before .before .before in
-    let f = fewer j in
-    omega (arith, j .before .smaller .ensures, whole (turn j) .clock)
+    let t = c .before .before .before .before .before in
+    omega (arith, c .before .before .before .smaller .ensures, whole t .clock)
 
 add-taken : tie.Need-add-taken Inv-loop μ-loop Inv-ticks μ-ticks
 add-taken c = 
-    let j = c .before .before .before in
-    let f = fewer j in
-    omega (arith, j .before .smaller .ensures, turn j .ticks-test .taken, start (turn j) .fits .count .fits)
+    let t = c .before .before .before .before .before in
+    omega (arith, c .before .before .before .smaller .ensures, t .ticks-test .taken, start t .fits .count .fits)
 
 ticks-less : tie.Need-ticks-less Inv-loop μ-loop Inv-ticks μ-ticks
 ticks-less c = 
-    let j = c .before .before .before in
-    let e = c .before .before .before .before .before in
-    omega (arith, j .before .smaller .ensures, c .before .before .if3 .taken, turn j .ticks-test .taken, e .if1 .left, whole (turn j) .clock)
+    let t = c .before .before .before .before .before in
+    omega (arith, c .before .before .before .smaller .ensures, t .ticks-test .taken, c .before .before .before .before .if1 .left, whole t .clock)
 
 ticks-again : tie.Need-ticks-again Inv-loop μ-loop Inv-ticks μ-ticks
 ticks-again c = 
-    let j = c .before .before .before in
+    let j = c .before .before in
     let k = turn j .before .ticks in
     let q = quiets j in
-    let f = fewer j in
     let e = j .before .smaller .ensures in
-    let l = c .before .leapt .ensures in (
-      going-leap _ _ _ _ _ _ _ _ _ (k .inv .0) _ (q .0) _ (k .inv .1) (able (turn j)) (q .2) (q .1) (omega arith) (omega arith) l (whole (turn j) .clock),
-      k .inv .1 ∙ sym (leap-tracks-word (j .if2 .calm) _ (k .tracks)) ∙ ap (playingWord (start (turn j) .args .present)) (sym (l ∙ leapt-is j)),
+    let s = c .before .if3 .taken in
+    let l = c .leapt .ensures in (
+      going-leap _ _ _ _ _ _ _ _ _ (k .inv .0) _ (q .0) _ (k .inv .1) (able (turn j)) (q .2) (omega (arith, q .1)) (omega arith) (omega arith) l (whole (turn j) .clock),
+      k .inv .1 ∙ sym (leap-tracks-word (j .before .smaller .result) _ (k .tracks))
+          ∙ ap (playingWord (start (turn j) .args .present)) (sym (l ∙ leap-is (j .before .smaller .result) _ _ (k .tracks) (k .inv .1) (k .inv .0 .tracks-long))),
       k .inv .2,
       k .inv .3,
     )
