@@ -264,7 +264,12 @@ going-leap b count log₀ log ts clock held taken answer g word r k ew able calm
       tracks-long = ap length e ∙ leap-tracks-long k (b .present) ts ∙ g .tracks-long;
     }
 
--- ---- the ways out of `advance`
+-- ---- the ways out of `proceed` and `advance`
+
+-- by the count as it was given
+pub advance-told : (b : Board) (log : List ℕ) {told given : ℤ} → told ≡ given → {reply : Reply} {board : Board} {after : List ℕ} →
+    Gives (does (call.Advance told) (world b log)) reply board after → Gives (does (call.Advance given) (world b log)) reply board after
+advance-told b log e {reply} {board} {after} g = subst (λ (n : ℤ). Gives (does (call.Advance n) (world b log)) reply board after) e g
 
 module _ (b : Board) (log : List ℕ) (count : ℤ) where
   abbrev given : Did Reply (World Board)
