@@ -86,7 +86,7 @@ declined-requires c κs = search needs
 
 returns : tie.Need-returns
 unfolding modeRuling
-returns c = 
+returns c =
     let b = board (c .before .before .before .before .before .before .before) in (
       follows-declined 3 b _ (cond-no _ _ (sym (c .before .before .unbroken .ensures) ∙ not-true _ (c .before .if1 .taken)) refl) (unmoved 3 b (c .declined .ensures)),
       omega (arith, ap (λ (r : Ruled). r .at) (c .declined .ensures)),
@@ -97,7 +97,7 @@ declined-requires-2 c κs = search needs
 
 returns-2 : tie.Need-returns-2
 unfolding modeRuling
-returns-2 c = 
+returns-2 c =
     let b = board (c .before .before .before .before .before .before .before .before) in (
       follows-declined 7 b _ (cond-yes _ _ (whole (c .before .before)) (cond-no _ _ (lt-leb _ _ (c .before .if2 .taken)) refl)) (unmoved 7 b (c .declined2 .ensures)),
       omega (arith, ap (λ (r : Ruled). r .at) (c .declined2 .ensures)),
@@ -117,7 +117,7 @@ declined-requires-3 c κs = search needs
 
 returns-3 : tie.Need-returns-3
 unfolding modeRuling
-returns-3 c = 
+returns-3 c =
     let s = c .before .before .before .before .before .before .before .before .before .before .before in
     let b = board s in (
       follows-declined 1 b _
@@ -150,7 +150,7 @@ declined-requires-4 c κs = search needs
 
 returns-4 : tie.Need-returns-4
 unfolding modeRuling decided
-returns-4 c = 
+returns-4 c =
     let b = board (c .before .before .before .before .before .before .before .before .before .before .before .before .before .before .before .before) in (
       follows-declined 2 b _
           (cond-yes _ _ (whole (c .before .before .before .before .before .before .before .before .before .before)) (cond-yes _ _ (le-leb _ _ (c .before .before .before .before .before .before .before .before .before .if2 .left))
@@ -166,7 +166,7 @@ action-requires : tie.Need-action-requires
 action-requires c κs = (valid (c .before .before .before .before .before .before .before), low (c .before .before))
 
 returns-5 : tie.Need-returns-5
-returns-5 c = 
+returns-5 c =
     let b = board (c .before .before .before .before .before .before .before .before .before .before .before .before .before .before .before .before .before .before .before) in
     let l = small (c .before .before .before .before .before .before .before .before .before) in (
       follows-silent b _ _ _ (ruling (c .before .before .before .before)) (sym (c .before .action .ensures) ∙ c .if3 .taken) (c .before .before .before .before .before .before .before .before .before .before .before .before .if2 .left)
@@ -178,7 +178,7 @@ declined-requires-5 : tie.Need-declined-requires-5
 declined-requires-5 c κs = search needs
 
 returns-6 : tie.Need-returns-6
-returns-6 c = 
+returns-6 c =
     let b = board (c .before .before .before .before .before .before .before .before .before .before .before .before .before .before .before .before .before .before .before .before .before) in
     let a = c .before .before .before .action .ensures in (
       follows-full b _ _ _ (ruling (c .before .before .before .before .before .before)) (λ z. c .before .before .if3 .left (a ∙ z)) (c .before .if4 .taken) (unmoved 8 b (c .declined5 .ensures)),
@@ -207,7 +207,7 @@ same-length : tie.Need-same-length
 same-length c = search needs
 
 returns-7 : tie.Need-returns-7
-returns-7 c = 
+returns-7 c =
     let b = board (c .before .before .before .before .before .before .before .before .before .before .before .before .before .before .before .before .before .before .before .before .before .before .before .before .before .before) in
     let a = c .before .before .before .before .before .before .before .before .action .ensures in
     let l = small (c .before .before .before .before .before .before .before .before .before .before .before .before .before .before .before .before) in (

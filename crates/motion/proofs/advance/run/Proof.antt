@@ -1,204 +1,31 @@
-use Prim.Native.Nat.{ℕ, _+_, _-_, _*_, _≤_, _<_}
-use Rattle.motion.proofs.Advancing.{Going, going-start, going-ends, going-full, going-done, going-tick, going-leap, boardAt, stageOf, go, whole-points, calm-none, leap-is}
-use Rattle.motion.specs.Does.{world, Ended}
-use Rattle.motion.specs.declared.advance.Advanced.the-variants.{Done, LogFull}
-use Rattle.tick.proofs.Bits.{Lowest, cleared}
-use Rattle.board.proofs.Broken.{Shaped, unbroken-of}
+use Prim.Native.Nat.{ℕ, _+_, _*_}
+use Rattle.motion.proofs.advance.run.Proof.Standing.{Inv-loop, μ-loop, Inv-ticks, μ-ticks, board, shape, start, whole, able, turn, quiets, fewer, leapt, ahead, whole′, short, leap-at, entry, member, stepping, tick, done, few, full}
+use Rattle.motion.proofs.Advancing.{going-start, going-ends, going-done, going-tick, going-leap, boardAt, whole-points, leap-is}
 use Rattle.tick.proofs.LeapLaws.{leap-tracks-word, unbroken-able, unbroken-telling}
-use Rattle.tick.proofs.Turning.{Turning, turning-start, turning-member, turning-able, turning-leapt, turning-step, turning-over, turning-rule, turning-stirred, turning-still, Ticked}
-use Rattle.board.proofs.Passing.{length-mapped}
+use Rattle.tick.proofs.Turning.{turning-start, turning-able, turning-step, turning-over, turning-rule}
 use Rattle.tick.proofs.Staging.{length-log}
-use Rattle.tick.proofs.Steps.{found-rule, tick-long, tick-few}
+use Rattle.tick.proofs.Steps.{found-rule, tick-long}
 use Rattle.record.proofs.Words.{length-write}
 use Rattle.motion.proofs.advance.run.Statement.{statement}
 use Rattle.motion.proofs.advance.run.Tie as tie
 use Rattle.record.specs.Bytes.{writeAt}
 use Rattle.points.specs.Points.{key, keysOf, infosOf, infoAt}
-use Rattle.tick.specs.Quiet.{Each, Calm, Able, Leapable, leapTracks, leapInto}
 use Rattle.record.specs.Record.{recordWidth, logBytes}
-use Rattle.board.specs.declared.Board.{Board}
-use Rattle.board.specs.Rule.{Unbroken, trackAt}
-use Rattle.tick.specs.Tick.{Stage, InfoRule, playingWord}
-use Rattle.mode.specs.Ruling.{boardOf, capacity}
-use Rattle.tick.specs.Word.{members}
+use Rattle.tick.specs.Tick.{InfoRule, playingWord}
 use Rattle.tick.specs.declared.Staged.{Staged}
-use Rattle.track.specs.declared.Track.{Track}
 use Rattle.track.proofs.Arrivals.{arrival-inside}
 use borrow.Author.Needs.{needs}
 use lib.Count.{trailingZeros}
-use lib.ListN.{length, take}
-use mathlib.Core.List.{List, []}
-use mathlib.Core.Logic.{⊎-elim}
-use mathlib.Core.Path.{_≡_, refl, sym, _∙_, ap, subst}
+use lib.ListN.{length}
+use mathlib.Core.Path.{refl, sym, _∙_, ap, subst}
 use native.Mathlib.Omega.{arith}
-
--- a board of the parts that a tick does not change
-abbrev parts : ℕ → List ℕ → List ℕ → ℕ → Board
-parts present keys infos n = boardOf [] present keys infos n 0 0
-
-abbrev Inv-loop : tie.InvT-loop
-Inv-loop present keys infos n from kept count log slots tracks₀ back word clock held taken look stage₀ reached₀ most calm room rest₀ left₀ staged₀ m₀ stirred₀ tracks stage reached rest left staged m stirred = Turning (parts present keys infos n) tracks₀ clock word calm stage reached tracks rest left staged m stirred
-
-abbrev μ-loop : tie.MeasureT-loop
-μ-loop present keys infos n from kept count log slots tracks₀ back word clock held taken look stage₀ reached₀ most calm room rest₀ left₀ staged₀ m₀ stirred₀ tracks stage reached rest left staged m stirred = left
-
-abbrev Inv-ticks : tie.InvT-ticks
-Inv-ticks present keys infos n from kept count log₀ slots tracks₀ back₀ word₀ clock₀ held₀ taken₀ look₀ stage₀ reached₀ answer₀ log tracks back word clock held taken look stage reached answer =
-    Going (boardOf tracks₀ present keys infos n from kept) count log₀ log tracks clock held taken answer × (word ≡ playingWord present tracks)
-    × (length stage ≡ 768) × (length reached ≡ 16)
-
-abbrev μ-ticks : tie.MeasureT-ticks
-μ-ticks present keys infos n from kept count log₀ slots tracks₀ back₀ word₀ clock₀ held₀ taken₀ look₀ stage₀ reached₀ answer₀ log tracks back word clock held taken look stage reached answer = count - taken
-
--- the board at the start, and its shape
-abbrev board : tie.Start Inv-loop μ-loop Inv-ticks μ-ticks → Board
-board s = boardOf (s .args .given) (s .args .present) (s .args .keys .now) (s .args .infos .now) (s .args .n) (s .args .from) (s .args .kept)
-
-shape : (s : tie.Start Inv-loop μ-loop Inv-ticks μ-ticks) → Shaped (board s)
-shape s = record { tracks = search (length-mapped, needs); keys = s .pre .0 .0; infos = s .pre .0 .1 }
-
--- ---- a turn begins
-
-abbrev start : tie.In-ticks Inv-loop μ-loop Inv-ticks μ-ticks → tie.Start Inv-loop μ-loop Inv-ticks μ-ticks
-start c = c .before .before .before .before .before .before
-
--- the board as it stands keeps the rules
-whole : (c : tie.In-ticks Inv-loop μ-loop Inv-ticks μ-ticks) → Unbroken (boardAt (board (start c)) (c .before .ticks .tracks) (c .before .ticks .clock) (c .before .ticks .held))
-whole c =
-    let s = shape (start c) in
-    let g = c .before .ticks .inv .0 in
-    unbroken-of _ (record { tracks = g .tracks-long; keys = s .keys; infos = s .infos }) (g .whole)
-
--- the playing tracks can be leapt
-able : (c : tie.In-ticks Inv-loop μ-loop Inv-ticks μ-ticks) → Leapable (c .before .ticks .tracks) (members (c .before .ticks .word))
-able c =
-    let s = shape (start c) in
-    let g = c .before .ticks .inv .0 in
-    subst (λ (w : ℕ). Leapable (c .before .ticks .tracks) (members w)) (sym (c .before .ticks .inv .1))
-    (unbroken-able _ (record { tracks = g .tracks-long; keys = s .keys; infos = s .infos }) (whole c))
-
-abbrev turn : tie.Joined2 Inv-loop μ-loop Inv-ticks μ-ticks → tie.In-ticks Inv-loop μ-loop Inv-ticks μ-ticks
-turn c = c .before .before .before
-
--- the ticks leapt are quiet, and no more than are left
-quiets : (c : tie.Joined2 Inv-loop μ-loop Inv-ticks μ-ticks) → (r : ℕ) × (c .if2 .calm ≤ r)
-    × Each (λ i. Calm (keysOf (board (start (turn c)) .points)) r i (trackAt (turn c .before .ticks .tracks) i)) (members (turn c .before .ticks .word))
-quiets c =
-    ⊎-elim (λ w. (w .1 .result .0, omega (arith, w .2 .ensures, w .3), w .1 .ensures .quiet))
-    (λ w. (0, omega (arith, w .1), calm-none _ (turn c .before .ticks .tracks) (members (turn c .before .ticks .word)))) (c .if2 .came)
-
-fewer : (c : tie.Joined2 Inv-loop μ-loop Inv-ticks μ-ticks) → c .if2 .calm ≤ c .before .smaller .result
-fewer c = ⊎-elim (λ w. omega (arith, w .2 .ensures, w .3)) (λ w. omega (arith, w .1)) (c .if2 .came)
-
--- the tracks after the leap, and where the loop stands then
-abbrev leapt : tie.Joined2 Inv-loop μ-loop Inv-ticks μ-ticks → List Track
-leapt c = leapTracks (c .if2 .calm) (start (turn c) .args .present) (turn c .before .ticks .tracks)
-
-leapt-is : (c : tie.Joined2 Inv-loop μ-loop Inv-ticks μ-ticks) → leapInto (c .if2 .calm) (turn c .before .ticks .tracks) (members (turn c .before .ticks .word)) (turn c .before .ticks .tracks) ≡ leapt c
-leapt-is c = let k = turn c .before .ticks in leap-is (c .if2 .calm) _ _ (k .tracks) (k .inv .1) (k .inv .0 .tracks-long)
-
-ahead : (c : tie.Joined2 Inv-loop μ-loop Inv-ticks μ-ticks) →
-    let k = turn c .before .ticks in
-    Going (board (start (turn c))) (start (turn c) .args .count) (start (turn c) .args .log .now) (k .log) (leapt c) (k .clock + c .if2 .calm) (k .held) (k .taken + c .if2 .calm)
-    (Done (record { 0 = k .taken + c .if2 .calm }))
-ahead c =
-    let k = turn c .before .ticks in
-    let q = quiets c in
-    let f = fewer c in
-    let e = c .before .smaller .ensures in
-    going-leap _ _ _ _ _ _ _ _ _ (k .inv .0) _ (q .0) _ (k .inv .1) (able (turn c)) (q .2) (q .1) (omega arith) (omega arith) (sym (leapt-is c)) (whole (turn c) .clock)
-
--- the board after the leap keeps the rules
-whole′ : (c : tie.Joined2 Inv-loop μ-loop Inv-ticks μ-ticks) → Unbroken (boardAt (board (start (turn c))) (leapt c) (turn c .before .ticks .clock + c .if2 .calm) (turn c .before .ticks .held))
-whole′ c =
-    let s = shape (start (turn c)) in
-    unbroken-of _ (record { tracks = ahead c .tracks-long; keys = s .keys; infos = s .infos }) (ahead c .whole)
-
--- a tick is left to walk
-short : (c : tie.Else3 Inv-loop μ-loop Inv-ticks μ-ticks) → c .before .if2 .calm < c .before .before .smaller .result
-short c = let f = fewer (c .before) in let n = c .if3 .left in omega arith
-
--- ---- the walk
-
-abbrev leap-at : tie.Joined4 Inv-loop μ-loop Inv-ticks μ-ticks → tie.Joined2 Inv-loop μ-loop Inv-ticks μ-ticks
-leap-at c = c .before .before
-
-abbrev entry : tie.Joined4 Inv-loop μ-loop Inv-ticks μ-ticks → tie.Start Inv-loop μ-loop Inv-ticks μ-ticks
-entry c = start (turn (leap-at c))
-
--- the tracks to go back to, if the records might not fit
-kept-back : (c : tie.Joined4 Inv-loop μ-loop Inv-ticks μ-ticks) → capacity (length (entry c .args .log .now)) - turn (leap-at c) .before .ticks .held < 48 → c .if4 .back ≡ leapt (leap-at c)
-kept-back c h =
-    ⊎-elim (λ w. w .2 ∙ w .1 .ensures ∙ leapt-is (leap-at c)) (λ w. absurd (omega (arith, w .0 .left))) (c .if4 .came)
-
-abbrev begun : tie.At-loop Inv-loop μ-loop Inv-ticks μ-ticks → tie.Joined4 Inv-loop μ-loop Inv-ticks μ-ticks
-begun c = c .before .before
-
--- the next member of the word
-member : (c : tie.In-loop Inv-loop μ-loop Inv-ticks μ-ticks) → Lowest (c .before .loop .rest)
-member c = turning-member _ _ _ _ _ _ _ _ _ _ _ _ _ (c .before .loop .inv) (c .loop-test .taken)
-
--- its track, leapt
-stepping : (c : tie.After-leap Inv-loop μ-loop Inv-ticks μ-ticks) → Able (c .leap .result)
-stepping c = subst Able (sym (c .leap .ensures)) (turning-leapt _ _ _ _ _ _ _ _ _ _ _ _ _ (c .before .before .before .loop .inv) (c .before .before .loop-test .taken))
-
--- ---- the tick is worked out
-
--- the tick from the tracks that the leap left
-abbrev tickAt : tie.Joined4 Inv-loop μ-loop Inv-ticks μ-ticks → Stage
-tickAt c =
-    let k = turn (leap-at c) .before .ticks in
-    stageOf (board (entry c)) (k .log) (leapt (leap-at c)) (k .clock + leap-at c .if2 .calm) (k .held)
-
-abbrev tick : tie.Joined6 Inv-loop μ-loop Inv-ticks μ-ticks → Stage
-tick c = tickAt (c .before .before .before .before)
-
-done : (c : tie.Joined6 Inv-loop μ-loop Inv-ticks μ-ticks) →
-    let k = c .before .before .before .before in
-    let s = entry k .args in
-    Ticked (parts (s .present) (s .keys .now) (s .infos .now) (s .n)) (leapt (leap-at k)) (turn (leap-at k) .before .ticks .clock + leap-at k .if2 .calm) (c .if6 .tracks) (c .if6 .total) (c .if6 .stage) (c .if6 .word)
-done c =
-    let k = c .before .before .loop in
-    let w = c .before .before .before .before .before .before .before .before .before .before .ticks .inv .1 in
-    let l = c .before .loop-test .left in
-    ⊎-elim
-    (λ r.
-    turning-stirred _ _ _ _ _ w _ _ _ _ _ _ _ _ (k .inv) l (r .6 ∙ r .3 .ensures .0) (r .9 ∙ r .3 .ensures .1 .0) (r .8 ∙ r .3 .ensures .1 .1 .0)
-    (r .7 ∙ r .3 .ensures .1 .1 .1 ∙ ap (playingWord _) (sym (r .6))))
-    (λ r. turning-still _ _ _ _ _ w _ _ _ _ _ _ _ _ (k .inv) l (r .0 .left) (r .1) (r .4) (r .3) (r .2)) (c .if6 .came)
-
-few : (c : tie.Joined6 Inv-loop μ-loop Inv-ticks μ-ticks) → c .if6 .total ≤ 48
-few c =
-    let k = c .before .before .before .before in
-    let b = board (entry k) in
-    omega (arith, done c .count, tick-few (keysOf (b .points)) (infosOf (b .points)) (turn (leap-at k) .before .ticks .clock + leap-at k .if2 .calm + 1) (b .present) (leapt (leap-at k)))
-
--- its records don't fit: the tracks are those that the leap left
-full : (c : tie.Joined4 Inv-loop μ-loop Inv-ticks μ-ticks) →
-    let k = turn (leap-at c) .before .ticks in
-    let room = capacity (length (entry c .args .log .now)) - k .held in
-    room < 48 → room < length (tickAt c .records) →
-    Ended (board (entry c)) (go (entry c .args .count) (world (board (entry c)) (entry c .args .log .now)))
-    (record { answer = LogFull (record { 0 = k .taken + leap-at c .if2 .calm }); tracks = c .if4 .back; clock = k .clock + leap-at c .if2 .calm; held = k .held }) (k .log)
-full c h r =
-    let j = leap-at c in
-    let k = turn j .before .ticks in
-    let n = short (c .before) in
-    let e = j .before .smaller .ensures in
-    subst
-    (λ (ts : List Track).
-    Ended (board (entry c)) (go (entry c .args .count) (world (board (entry c)) (entry c .args .log .now)))
-    (record { answer = LogFull (record { 0 = k .taken + j .if2 .calm }); tracks = ts; clock = k .clock + j .if2 .calm; held = k .held }) (k .log))
-    (sym (kept-back c h))
-    (going-full _ _ _ _ _ _ _ _ _ (ahead j) (omega (arith, turn j .ticks-test .taken)) (omega (arith, whole (turn j) .clock)) r)
-
--- ---- the needs
+mod Standing
 
 playing-requires : tie.Need-playing-requires Inv-loop μ-loop Inv-ticks μ-ticks
 playing-requires c κs = search needs
 
 ticks-holds : tie.Need-ticks-holds Inv-loop μ-loop Inv-ticks μ-ticks
-ticks-holds c = 
+ticks-holds c =
     let s = c .before .before .before .before in
     (going-start (board s) (s .args .count) (s .args .log .now) (s .pre .1 .0) (s .pre .1 .1) (shape s .tracks), c .playing .ensures, refl, refl)
 
@@ -212,7 +39,7 @@ smaller-requires : tie.Need-smaller-requires Inv-loop μ-loop Inv-ticks μ-ticks
 smaller-requires c κs = search needs
 
 quiet-requires : tie.Need-quiet-requires Inv-loop μ-loop Inv-ticks μ-ticks
-quiet-requires c κs = 
+quiet-requires c κs =
     let t = c .before .before .before in
     let u = whole t in
     let s = shape (start t) in
@@ -231,22 +58,20 @@ leapt-requires : tie.Need-leapt-requires Inv-loop μ-loop Inv-ticks μ-ticks
 leapt-requires c κs = (able (turn (c .before)), omega (arith, c .before .before .smaller .ensures))
 
 add-clock : tie.Need-add-clock Inv-loop μ-loop Inv-ticks μ-ticks
-add-clock c = 
-    let t = c .before .before .before .before .before in
-    omega (arith, c .before .before .before .smaller .ensures, whole t .clock)
+add-clock c = omega (arith, c .before .before .before .smaller .ensures, whole (c .before .before .before .before .before) .clock)
 
 add-taken : tie.Need-add-taken Inv-loop μ-loop Inv-ticks μ-ticks
-add-taken c = 
+add-taken c =
     let t = c .before .before .before .before .before in
     omega (arith, c .before .before .before .smaller .ensures, t .ticks-test .taken, start t .fits .count .fits)
 
 ticks-less : tie.Need-ticks-less Inv-loop μ-loop Inv-ticks μ-ticks
-ticks-less c = 
+ticks-less c =
     let t = c .before .before .before .before .before in
     omega (arith, c .before .before .before .smaller .ensures, t .ticks-test .taken, c .before .before .before .before .if1 .left, whole t .clock)
 
 ticks-again : tie.Need-ticks-again Inv-loop μ-loop Inv-ticks μ-ticks
-ticks-again c = 
+ticks-again c =
     let j = c .before .before in
     let k = turn j .before .ticks in
     let q = quiets j in
@@ -264,25 +89,25 @@ sub-room : tie.Need-sub-room Inv-loop μ-loop Inv-ticks μ-ticks
 sub-room c = omega (arith, c .before .before .before .before .before .ticks .inv .0 .fits)
 
 leapt-requires-2 : tie.Need-leapt-requires-2 Inv-loop μ-loop Inv-ticks μ-ticks
-leapt-requires-2 c κs = 
+leapt-requires-2 c κs =
     let j = c .before .before in
     let f = fewer j in
     (able (turn j), omega (arith, j .before .smaller .ensures))
 
 add-clock-2 : tie.Need-add-clock-2 Inv-loop μ-loop Inv-ticks μ-ticks
-add-clock-2 c = 
+add-clock-2 c =
     let j = c .before .before .before in
     let f = fewer j in
     omega (arith, j .before .smaller .ensures, whole (turn j) .clock)
 
 add-taken-2 : tie.Need-add-taken-2 Inv-loop μ-loop Inv-ticks μ-ticks
-add-taken-2 c = 
+add-taken-2 c =
     let j = c .before .before .before in
     let f = fewer j in
     omega (arith, j .before .smaller .ensures, turn j .ticks-test .taken, start (turn j) .fits .count .fits)
 
 loop-holds : tie.Need-loop-holds Inv-loop μ-loop Inv-ticks μ-ticks
-loop-holds c = 
+loop-holds c =
     let j = c .before .before .before in
     let k = turn j .before .ticks in
     let s = shape (start (turn j)) in
@@ -299,7 +124,7 @@ array-copy-out-s : tie.Need-array-copy-out-s Inv-loop μ-loop Inv-ticks μ-ticks
 array-copy-out-s c = omega (arith, member c .inside, c .before .loop .inv .long)
 
 leap-requires : tie.Need-leap-requires Inv-loop μ-loop Inv-ticks μ-ticks
-leap-requires c κs = 
+leap-requires c κs =
     let i = c .before in
     let j = c .before .before .before .before .before .before in
     let a = turning-able _ _ _ _ _ _ _ _ _ _ _ _ _ (i .before .loop .inv) (i .loop-test .taken) in
@@ -316,14 +141,14 @@ mul-here : tie.Need-mul-here Inv-loop μ-loop Inv-ticks μ-ticks
 mul-here c = let l = member (c .before .before .before) .inside in omega arith
 
 add-here : tie.Need-add-here Inv-loop μ-loop Inv-ticks μ-ticks
-add-here c = 
+add-here c =
     let l = member (c .before .before .before .before) .inside in
     let a = stepping (c .before .before) in
     let i = arrival-inside _ (a .valid) in
     omega (arith, c .before .arrival .ensures, a .valid .ordered)
 
 info-at-requires : tie.Need-info-at-requires Inv-loop μ-loop Inv-ticks μ-ticks
-info-at-requires c κs = 
+info-at-requires c κs =
     let t = c .before .before .before .before .before .before .before .before .before .before .before .before in
     let u = whole t in
     let s = shape (start t) in
@@ -333,7 +158,7 @@ cast-step-member : tie.Need-cast-step-member Inv-loop μ-loop Inv-ticks μ-ticks
 cast-step-member c = record { fits = (let l = member (c .before .before .before .before .before) .inside in omega arith) }
 
 add-step-member : tie.Need-add-step-member Inv-loop μ-loop Inv-ticks μ-ticks
-add-step-member c = 
+add-step-member c =
     let e = c .before .before .before .before .before .before .before .before .before in
     let n = short e in
     omega (arith, c .before .before .before .before .before .before .before .before .before .before .before .smaller .ensures, whole (c .before .before .before .before .before .before .before .before .before .before .before .before .before) .clock)
@@ -342,7 +167,7 @@ slice-aggregate-step-member : tie.Need-slice-aggregate-step-member Inv-loop μ-l
 slice-aggregate-step-member c = search needs
 
 step-member-requires : tie.Need-step-member-requires Inv-loop μ-loop Inv-ticks μ-ticks
-step-member-requires c κs = 
+step-member-requires c κs =
     let a = stepping (c .before .before .before .before) in
     let v = c .before .before .before .before .before .before .before .loop .inv .steps in
     let t = c .before .before .before .before .before .before .before .before .before .before .before .before .before .before in (
@@ -366,7 +191,7 @@ slice-aggregate-note : tie.Need-slice-aggregate-note Inv-loop μ-loop Inv-ticks 
 slice-aggregate-note c = search needs
 
 note-requires : tie.Need-note-requires Inv-loop μ-loop Inv-ticks μ-ticks
-note-requires c κs = 
+note-requires c κs =
     let v = c .before .before .before .before .before .before .before .before .before .before .before .loop .inv .steps in
     omega (arith, v .few-reached, v .reached-long, c .before .before .before .before .before .before .before .before .before .before .loop-test .taken)
 
@@ -389,7 +214,7 @@ loop-less : tie.Need-loop-less Inv-loop μ-loop Inv-ticks μ-ticks
 loop-less c = search needs
 
 loop-again : tie.Need-loop-again Inv-loop μ-loop Inv-ticks μ-ticks
-loop-again c = 
+loop-again c =
     turning-step _ _ _ _ _ _ _ _ _ _ _ _ _ (c .before .before .before .before .before .before .before .before .before .before .before .before .before .before .before .loop .inv) (c .before .before .before .before .before .before .before .before .before .before .before .before .before .before .loop-test .taken) _ (whole-points (boardAt (board (entry (c .before .before .before .before .before .before .before .before .before .before .before .before .before .before .before .before .before))) (leapt (leap-at (c .before .before .before .before .before .before .before .before .before .before .before .before .before .before .before .before .before))) (turn (leap-at (c .before .before .before .before .before .before .before .before .before .before .before .before .before .before .before .before .before)) .before .ticks .clock + leap-at (c .before .before .before .before .before .before .before .before .before .before .before .before .before .before .before .before .before) .if2 .calm) (turn (leap-at (c .before .before .before .before .before .before .before .before .before .before .before .before .before .before .before .before .before)) .before .ticks .held)) (ahead (leap-at (c .before .before .before .before .before .before .before .before .before .before .before .before .before .before .before .before .before)) .whole))
     (c .before .before .before .before .before .before .before .before .before .before .before .before .leap .ensures)
     (c .before .before .before .before .before .before .before .before .before .info-at .ensures ∙ ap (λ (l : ℕ). infoAt (key (trailingZeros 16 (c .before .before .before .before .before .before .before .before .before .before .before .before .before .before .before .loop .rest)) l) (keysOf (board (entry (c .before .before .before .before .before .before .before .before .before .before .before .before .before .before .before .before .before)) .points)) (infosOf (board (entry (c .before .before .before .before .before .before .before .before .before .before .before .before .before .before .before .before .before)) .points))) (c .before .before .before .before .before .before .before .before .before .before .before .arrival .ensures))
@@ -397,7 +222,7 @@ loop-again c =
     (c .before .before .before .note .ensures .0) (c .before .before .before .note .ensures .1 .0) (c .before .before .before .note .ensures .1 .1) (c .before .stirs .ensures)
 
 add-run-commands : tie.Need-add-run-commands Inv-loop μ-loop Inv-ticks μ-ticks
-add-run-commands c = 
+add-run-commands c =
     let n = short (c .before .before .before .before .before) in
     omega (arith, c .before .before .before .before .before .before .before .smaller .ensures, whole (c .before .before .before .before .before .before .before .before .before) .clock)
 
@@ -408,11 +233,12 @@ slice-aggregate-run-commands-2 : tie.Need-slice-aggregate-run-commands-2 Inv-loo
 slice-aggregate-run-commands-2 c = search needs
 
 run-commands-requires : tie.Need-run-commands-requires Inv-loop μ-loop Inv-ticks μ-ticks
-run-commands-requires c κs = 
+run-commands-requires c κs =
     let k = c .before .before .before .before .loop in
-    let v = k .inv .steps in
-    (omega (arith, v .few-reached, v .reached-long),
-    (turning-rule _ _ _ _ _ (c .before .before .before .before .before .before .before .before .before .before .before .before .ticks .inv .1) _ _ _ _ _ _ _ _ (k .inv) (c .before .before .before .loop-test .left), omega (arith, v .few-reached, v .few-records, v .stage-long)))
+    let v = k .inv .steps in (
+      omega (arith, v .few-reached, v .reached-long),
+      (turning-rule _ _ _ _ _ (c .before .before .before .before .before .before .before .before .before .before .before .before .ticks .inv .1) _ _ _ _ _ _ _ _ (k .inv) (c .before .before .before .loop-test .left), omega (arith, v .few-reached, v .few-records, v .stage-long)),
+    )
 
 mul-commit : tie.Need-mul-commit Inv-loop μ-loop Inv-ticks μ-ticks
 mul-commit c = omega (arith, c .before .before .before .before .before .before .before .before .before .before .before .before .ticks .inv .0 .fits, c .before .before .before .before .before .before .before .before .before .before .before .before .before .before .before .before .before .good)
@@ -424,7 +250,7 @@ mul-commit-2 : tie.Need-mul-commit-2 Inv-loop μ-loop Inv-ticks μ-ticks
 mul-commit-2 c = let f = few (c .before .before .before .before) in omega arith
 
 commit-requires : tie.Need-commit-requires Inv-loop μ-loop Inv-ticks μ-ticks
-commit-requires c κs = 
+commit-requires c κs =
     let g = c .before .before .before .before .before .before .before .before .before .before .before .before .before .before .ticks .inv .0 in
     let d = done (c .before .before .before .before) in
     (omega (arith, g .fits, g .long, c .before .before .before .if7 .left), omega (arith, d .stage-long, few (c .before .before .before .before)))
@@ -433,22 +259,22 @@ add-held : tie.Need-add-held Inv-loop μ-loop Inv-ticks μ-ticks
 add-held c = omega (arith, c .before .before .before .before .before .before .before .before .before .before .before .before .before .before .before .before .before .ticks .inv .0 .fits, c .before .before .before .before .before .before .if7 .left, c .before .before .before .before .before .before .before .before .before .before .before .before .before .before .before .before .before .before .before .before .before .before .good)
 
 add-clock-3 : tie.Need-add-clock-3 Inv-loop μ-loop Inv-ticks μ-ticks
-add-clock-3 c = 
+add-clock-3 c =
     let n = short (c .before .before .before .before .before .before .before .before .before .before .before .before) in
     omega (arith, c .before .before .before .before .before .before .before .before .before .before .before .before .before .before .smaller .ensures, whole (c .before .before .before .before .before .before .before .before .before .before .before .before .before .before .before .before) .clock)
 
 add-taken-3 : tie.Need-add-taken-3 Inv-loop μ-loop Inv-ticks μ-ticks
-add-taken-3 c = 
+add-taken-3 c =
     let n = short (c .before .before .before .before .before .before .before .before .before .before .before .before) in
     omega (arith, c .before .before .before .before .before .before .before .before .before .before .before .before .before .before .smaller .ensures, c .before .before .before .before .before .before .before .before .before .before .before .before .before .before .before .before .ticks-test .taken, c .before .before .before .before .before .before .before .before .before .before .before .before .before .before .before .before .before .before .before .before .before .before .fits .count .fits)
 
 ticks-less-2 : tie.Need-ticks-less-2 Inv-loop μ-loop Inv-ticks μ-ticks
-ticks-less-2 c = 
+ticks-less-2 c =
     let n = short (c .before .before .before .before .before .before .before .before .before .before .before .before) in
     omega (arith, c .before .before .before .before .before .before .before .before .before .before .before .before .before .before .smaller .ensures, c .before .before .before .before .before .before .before .before .before .before .before .before .before .before .before .before .ticks-test .taken)
 
 ticks-again-2 : tie.Need-ticks-again-2 Inv-loop μ-loop Inv-ticks μ-ticks
-ticks-again-2 c = 
+ticks-again-2 c =
     let j = c .before .before .before .before .before .before .before .before .before .before .before .before .before in
     let k = turn j .before .ticks in
     let d = done (c .before .before .before .before .before .before .before) in
@@ -483,7 +309,7 @@ same-length-3 : tie.Need-same-length-3 Inv-loop μ-loop Inv-ticks μ-ticks
 same-length-3 c = c .before .before .before .before .before .before .before .before .before .before .before .before .before .before .before .before .before .before .before .before .before .before .before .ticks .inv .0 .long
 
 returns-3 : tie.Need-returns-3 Inv-loop μ-loop Inv-ticks μ-ticks
-returns-3 c = 
+returns-3 c =
     let v = turning-step _ _ _ _ _ _ _ _ _ _ _ _ _ (c .before .before .before .before .before .before .before .before .before .before .before .before .before .before .before .loop .inv) (c .before .before .before .before .before .before .before .before .before .before .before .before .before .before .loop-test .taken) _ (whole-points (boardAt (board (entry (c .before .before .before .before .before .before .before .before .before .before .before .before .before .before .before .before .before))) (leapt (leap-at (c .before .before .before .before .before .before .before .before .before .before .before .before .before .before .before .before .before))) (turn (leap-at (c .before .before .before .before .before .before .before .before .before .before .before .before .before .before .before .before .before)) .before .ticks .clock + leap-at (c .before .before .before .before .before .before .before .before .before .before .before .before .before .before .before .before .before) .if2 .calm) (turn (leap-at (c .before .before .before .before .before .before .before .before .before .before .before .before .before .before .before .before .before)) .before .ticks .held)) (ahead (leap-at (c .before .before .before .before .before .before .before .before .before .before .before .before .before .before .before .before .before)) .whole))
     (c .before .before .before .before .before .before .before .before .before .before .before .before .leap .ensures)
     (c .before .before .before .before .before .before .before .before .before .info-at .ensures ∙ ap (λ (l : ℕ). infoAt (key (trailingZeros 16 (c .before .before .before .before .before .before .before .before .before .before .before .before .before .before .before .loop .rest)) l) (keysOf (board (entry (c .before .before .before .before .before .before .before .before .before .before .before .before .before .before .before .before .before)) .points)) (infosOf (board (entry (c .before .before .before .before .before .before .before .before .before .before .before .before .before .before .before .before .before)) .points))) (c .before .before .before .before .before .before .before .before .before .before .before .arrival .ensures))
@@ -496,7 +322,7 @@ same-length-4 : tie.Need-same-length-4 Inv-loop μ-loop Inv-ticks μ-ticks
 same-length-4 c = c .before .before .before .before .before .before .before .before .before .before .before .ticks .inv .0 .long
 
 returns-4 : tie.Need-returns-4 Inv-loop μ-loop Inv-ticks μ-ticks
-returns-4 c = 
+returns-4 c =
     let d = done (c .before) in
     full (c .before .before .before .before .before) (omega (arith, c .if7 .taken, few (c .before))) (omega (arith, c .if7 .taken, d .count))
 
