@@ -7,7 +7,6 @@ use lib.IntN.{ℤ}
 use lib.ListN.{length}
 use Rattle.track.specs.declared.grid.Decision.{Decision}
 use Rattle.track.specs.declared.grid.Decision.the-variants as decision
-use Rattle.track.specs.declared.setup.Answer.{Answer}
 use Rattle.track.specs.Grid.{gridOf}
 use Rattle.track.proofs.Tests.{cond-cases}
 use Rattle.board.specs.declared.Board.{Board}
@@ -20,7 +19,6 @@ use Rattle.replay.specs.Replay.{World}
 use Rattle.mode.specs.Ruling.{Ruling, capacity, declined, callRecords, changesTo, decided, modeRuling, Follows}
 use Rattle.mode.proofs.Rulings.{follows-told}
 use Rattle.motion.specs.Does.{Reply, answered, Gives}
-use Rattle.firmware.specs.declared.value.Answered.{Answered}
 use Rattle.firmware.specs.Numbers.{numberOf, numberSaid, answerOf, outcomeSaid}
 
 -- what a ruling answers is said by its number: 3, 7, 1, 2 and 8 are no 0

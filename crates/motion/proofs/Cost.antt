@@ -14,7 +14,6 @@ use borrow.Author.Tests.{le-leb, lt-leb}
 use Rattle.track.specs.declared.Track.{Track}
 use Rattle.track.specs.Rule.{clockEnd}
 use Rattle.track.specs.Leap.{leap}
-use Rattle.track.proofs.Leaps.{leap-zero}
 use Rattle.board.specs.declared.Board.{Board}
 use Rattle.points.specs.Points.{keysOf, infosOf}
 use Rattle.board.specs.Rule.{trackAt, pointAt}
@@ -25,12 +24,11 @@ use Rattle.replay.specs.Replay.{World, w-halt, w-step}
 use Rattle.replay.proofs.Cuts.{ticks-on, ticks-off}
 use Rattle.tick.specs.Word.{members}
 use Rattle.tick.specs.Tick.{playingWord, tickOf}
-use Rattle.tick.specs.Quiet.{Each, Some, loud, Calm, Fewest, Leapable, leapTracks}
+use Rattle.tick.specs.Quiet.{Each, Some, loud, Calm, Fewest, leapTracks}
 use Rattle.mode.specs.Ruling.{capacity}
 use Rattle.motion.specs.Does.{Stop, ends, fills, haltOf, gridstep}
 use Rattle.motion.specs.Cost.{playingCount, mostOf, Ahead, leapt, TickTurns, done, ended, leaps, filled, walks}
-use Rattle.tick.proofs.Players.{some-playing, some-member}
-use Rattle.tick.proofs.LeapLaws.{leap-into, leap-tracks-long, leap-tracks-word, leap-tracks-min, leap-tracks-max, leap-tracks-sound, some-leapt, unbroken-able, unbroken-telling}
+use Rattle.tick.proofs.LeapLaws.{leap-into, leap-tracks-long, leap-tracks-word, leap-tracks-min, leap-tracks-max, leap-tracks-sound, unbroken-able, unbroken-telling}
 use Rattle.tick.proofs.Steps.{members-most}
 use Rattle.motion.proofs.Machine.{halt-none, tick-whole}
 use Rattle.motion.proofs.Advancing.{going-start, going-leap, calm-none}

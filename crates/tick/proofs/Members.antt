@@ -115,11 +115,6 @@ module _ (b : Board) (ts : List Track) (clock word : ℕ) (stage reached : List 
       positive zero e = absurd (omega (arith, s .left-is, ap ones e, no-ones))
       positive (suc w) e = omega arith
 
-  -- it can be stepped
-  pub member-able : 0 < left → Able t
-  unfolding Each
-  member-able h = subst (λ (is : List ℕ). Leapable next is) (member-left h .rest) (s .able) .0
-
   -- one member stepped: its records staged, its point noted
   pub stepping-step : (h : 0 < left) (us : List Track) → pointsTest (b .present) us 0 (keysOf (b .points)) (infosOf (b .points)) ≡ true →
       {u : Track} {d count′ m′ : ℕ} {stage′ reached′ : List ℕ} → d ≡ found → u ≡ step t (waits d) →

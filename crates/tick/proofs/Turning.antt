@@ -15,7 +15,6 @@ use Rattle.track.specs.Rule.{PLAYING, Valid}
 use Rattle.track.specs.Walk.{step}
 use Rattle.track.specs.Leap.{leap}
 use Rattle.board.specs.declared.Board.{Board}
-use Rattle.record.specs.declared.Record.{Record}
 use Rattle.record.specs.Bytes.{writeAt}
 use Rattle.record.specs.Record.{recordWidth, logBytes}
 use Rattle.points.specs.Points.{ascendingFrom, keysOf, infosOf}
