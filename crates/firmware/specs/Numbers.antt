@@ -2,7 +2,9 @@
 use Prim.Native.Nat.{ℕ, zero, suc}
 use Rattle.track.specs.declared.setup.Answer.{Answer}
 use Rattle.track.specs.declared.setup.Answer.the-variants as answer
+use Rattle.board.specs.declared.setup.Outcome.{Outcome}
 use Rattle.motion.specs.Does.{Reply, accepted, refused, done, logFull, clockEnded}
+use Rattle.firmware.specs.declared.value.Answered.{Answered}
 use Rattle.firmware.specs.declared.value.Ending.{Ending}
 
 -- a mode call's answer: 0 accepted, else the refusal's number
@@ -13,6 +15,14 @@ numberOf (answer.Refused n) = n
 abbrev pub numberSaid : ℕ → Reply
 numberSaid zero = accepted
 numberSaid (suc n) = refused (suc n)
+
+-- the same in the words of the call by value, with the board
+abbrev pub answerOf : ℕ → Answer
+answerOf zero = answer.Accepted
+answerOf (suc n) = answer.Refused (suc n)
+
+abbrev pub outcomeSaid : Answered → Outcome
+outcomeSaid r = record { answer = answerOf (r .number); board = r .board }
 
 -- an advance's: its reason, 0 Done, 1 LogFull, 2 ClockEnd, with the ticks taken; any other is a refusal, with its number
 abbrev pub reasonSaid : ℕ → ℕ → Reply

@@ -1,12 +1,15 @@
 // The same calls on a board by value, with answers that are numbers.
+use advance::proceed;
 use board::Board;
-use board::setup::Outcome;
+use mode::judge;
 use motion::advance::Advanced;
 use track::setup::Answer;
 ghost use mathlib.Core.Path.{_≡_};
+ghost use lib.ListN.{length};
+ghost use Rattle.mode.specs.Ruling.{Follows, modeRuling};
 ghost use Rattle.motion.specs.Does.{Gives, does, world, advancedSaid};
 ghost use Rattle.motion.specs.declared.call.Call.the-variants as call;
-ghost use Rattle.firmware.specs.Numbers.{numberOf, numberSaid, endingSaid};
+ghost use Rattle.firmware.specs.Numbers.{numberOf, numberSaid, outcomeSaid, endingSaid};
 
 // How an advance ended: the reason, with the ticks taken or, for a refusal, its number.
 #[repr(C)]
@@ -46,37 +49,54 @@ fn number_of(a: Answer) -> u32
     }
 }
 
-fn numbered(o: Outcome) -> Answered
-    ensures { λ r. ⌜ (r .board ≡ o .board) × (r .number ≡ numberOf (o .answer)) ⌝ }
+// A mode call by its number, 1 play, 2 pause, 3 resume, 4 stop.
+fn mode_call(mut b: Board, track: i64, call: u8, log: &mut [u8]) -> Answered
+    ensures { λ r. ⌜ Follows (modeRuling b (length (now (log .entry))) track call) (outcomeSaid r) (now (log .entry)) (now (log .exit)) ⌝ }
 {
-    let board = o.board;
-    let answer = o.answer;
+    let tracks = b.tracks;
+    let r = judge(
+        tracks,
+        b.present,
+        b.clock,
+        &b.points.keys,
+        &b.points.infos,
+        b.points.count,
+        b.held,
+        track,
+        call,
+        log,
+    );
+    let answer = r.answer;
+    let at = r.at;
+    let after = r.track;
     let number = number_of(answer);
-    Answered { board, number }
+    b.tracks[at] = after;
+    b.held = r.held;
+    Answered { board: b, number }
 }
 
 pub fn play(b: Board, track: i64, log: &mut [u8]) -> Answered
     ensures { λ r. ⌜ Gives (does (call.Play track) (world b (now (log .entry)))) (numberSaid (r .number)) (r .board) (now (log .exit)) ⌝ }
 {
-    numbered(motion::modes::play(b, track, log))
+    mode_call(b, track, 1, log)
 }
 
 pub fn pause(b: Board, track: i64, log: &mut [u8]) -> Answered
     ensures { λ r. ⌜ Gives (does (call.Pause track) (world b (now (log .entry)))) (numberSaid (r .number)) (r .board) (now (log .exit)) ⌝ }
 {
-    numbered(motion::modes::pause(b, track, log))
+    mode_call(b, track, 2, log)
 }
 
 pub fn resume(b: Board, track: i64, log: &mut [u8]) -> Answered
     ensures { λ r. ⌜ Gives (does (call.Resume track) (world b (now (log .entry)))) (numberSaid (r .number)) (r .board) (now (log .exit)) ⌝ }
 {
-    numbered(motion::modes::resume(b, track, log))
+    mode_call(b, track, 3, log)
 }
 
 pub fn stop(b: Board, track: i64, log: &mut [u8]) -> Answered
     ensures { λ r. ⌜ Gives (does (call.Stop track) (world b (now (log .entry)))) (numberSaid (r .number)) (r .board) (now (log .exit)) ⌝ }
 {
-    numbered(motion::modes::stop(b, track, log))
+    mode_call(b, track, 4, log)
 }
 
 fn ending_of(a: Advanced) -> Ending
@@ -102,12 +122,26 @@ fn ending_of(a: Advanced) -> Ending
     }
 }
 
-pub fn advance(b: Board, count: i64, log: &mut [u8]) -> Ended
+pub fn advance(mut b: Board, count: i64, log: &mut [u8]) -> Ended
     ensures { λ r. ⌜ Gives (does (call.Advance count) (world b (now (log .entry)))) (endingSaid (r .ending)) (r .board) (now (log .exit)) ⌝ }
 {
-    let r = advance::advance(b, count, log);
-    let board = r.board;
-    let answer = r.answer;
+    let tracks = b.tracks;
+    let left = proceed(
+        tracks,
+        b.present,
+        b.clock,
+        &b.points.keys,
+        &b.points.infos,
+        b.points.count,
+        b.held,
+        count,
+        log,
+    );
+    let answer = left.answer;
+    let after = left.tracks;
     let ending = ending_of(answer);
-    Ended { board, ending }
+    b.tracks = after;
+    b.clock.0 = left.clock;
+    b.held = left.held as u64;
+    Ended { board: b, ending }
 }

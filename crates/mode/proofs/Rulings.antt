@@ -4,10 +4,12 @@ use mathlib.Core.Path.{_≡_, refl, sym, _∙_, ap, subst}
 use mathlib.Core.List.{List, [], _∷_, append-nil}
 use native.Mathlib.Nat.{add-zero}
 use native.Mathlib.Omega.{arith}
+use lib.IntN.{ℤ}
 use lib.ListN.{length, set}
+use lib.Seq.{set-getD}
 use borrow.Author.Tests.{eq-eqb, ne-eqb, le-leb, lt-leb}
 use Rattle.track.specs.declared.Track.{Track}
-use Rattle.track.specs.declared.setup.Answer.the-variants.{Accepted}
+use Rattle.track.specs.declared.setup.Answer.the-variants.{Accepted, Refused}
 use Rattle.track.specs.Rule.{actionCell, entered}
 use Rattle.track.proofs.Tests.{cond-yes, cond-no}
 use Rattle.record.specs.Bytes.{writeAt}
@@ -16,10 +18,16 @@ use Rattle.record.specs.declared.Record.{Record}
 use Rattle.board.specs.declared.setup.Outcome.{Outcome}
 use Rattle.tick.proofs.Staging.{write-none}
 use Rattle.record.specs.Record.{recordWidth, recordBytes, logBytes}
-use Rattle.board.specs.Rule.{trackAt}
+use Rattle.board.specs.Rule.{noTrack, trackAt}
 use Rattle.board.specs.Calls.{refused, accepted, boardWith}
 use Rattle.tick.specs.Tick.{recordOf, changeRecords}
-use Rattle.mode.specs.Ruling.{Ruling, capacity, declined, callRecords, changesTo, Follows}
+use Rattle.mode.specs.Ruling.{Ruling, capacity, declined, callRecords, changesTo, modeRuling, Follows, outcomeOf}
+use Rattle.mode.specs.declared.Ruled.{Ruled}
+
+-- by the track's number as it was given
+pub follows-told : (b : Board) (n call : ℕ) {told given : ℤ} {r : Outcome} {before after : List ℕ} → told ≡ given →
+    Follows (modeRuling b n told call) r before after → Follows (modeRuling b n given call) r before after
+follows-told b n call {r = r} {before} {after} e f = subst (λ (t : ℤ). Follows (modeRuling b n t call) r before after) e f
 
 -- a refusal follows a ruling that declines
 pub follows-declined : (k : ℕ) (b : Board) (log : List ℕ) {m : Ruling} {r : Outcome} → declined k b ≡ m → r ≡ refused k b → Follows m r log log
@@ -31,6 +39,12 @@ follows-declined k b log {m} {r} e q =
       board-is = ap (λ (o : Outcome). o .board) q ∙ ap (λ (h : ℕ). boardWith b (b .tracks) (b .present) (b .points) h) (sym (add-zero (b .held)));
       log-is = sym (write-none log (b .held * recordWidth));
     })
+
+-- a call that is declined leaves the board as it is
+pub unmoved : (k : ℕ) (b : Board) {r : Ruled} → r ≡ record { answer = Refused k; at = 0; track = trackAt (b .tracks) 0; held = b .held } → outcomeOf b r ≡ refused k b
+unmoved k b e =
+    ap (outcomeOf b) e
+    ∙ ap (λ (ts : List Track). refused k (boardWith b ts (b .present) (b .points) (b .held))) (set-getD (b .tracks) 0 noTrack)
 
 -- the board after a change, from the track that the callee gave
 pub changed-with : (b : Board) (i held : ℕ) {t u : Track} → t ≡ u →

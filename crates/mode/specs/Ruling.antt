@@ -5,6 +5,7 @@ use mathlib.Core.List.{List, []}
 use lib.ListN.{length, set}
 use lib.IntN.{ℤ}
 use lib.Dec.{leb}
+use Rattle.track.specs.declared.Track.{Track}
 use Rattle.track.specs.declared.grid.Decision.{Decision}
 use Rattle.track.specs.declared.grid.Decision.the-variants as decision
 use Rattle.track.specs.declared.setup.Answer.{Answer}
@@ -17,10 +18,22 @@ use Rattle.record.specs.declared.Record.{Record}
 use Rattle.record.specs.Record.{recordWidth, logBytes}
 use Rattle.record.specs.Bytes.{writeAt}
 use Rattle.board.specs.declared.setup.Outcome.{Outcome}
+use Rattle.mode.specs.declared.Ruled.{Ruled}
 use mathlib.Core.Path.{_≡_}
 use Rattle.board.specs.Rule.{trackAt, unbrokenTest}
 use Rattle.board.specs.Calls.{boardWith, foundIn}
 use Rattle.tick.specs.Tick.{changeRecords}
+
+-- a board of its parts
+abbrev pub boardOf : List Track → ℕ → List ℕ → List ℕ → ℕ → ℕ → ℕ → Board
+boardOf tracks present keys infos count clock held =
+    record {
+      tracks = tracks;
+      present = present;
+      points = record { keys = keys; infos = infos; count = count };
+      clock = record { 0 = clock };
+      held = held;
+    }
 
 -- Capacity is the log's length over 16, rounded down.
 abbrev pub capacity : ℕ → ℕ
@@ -73,3 +86,8 @@ pub record Follows (m : Ruling) (o : Outcome) (before after : List ℕ) : Type 0
   pub answer-is : o .answer ≡ m .answer
   pub board-is : o .board ≡ boardWith (m .board) (m .board .tracks) (m .board .present) (m .board .points) (m .board .held + length (m .records))
   pub log-is : after ≡ writeAt before (m .board .held * recordWidth) (logBytes (m .records))
+
+-- the outcome on b of what a call comes to: one track put in its place, and the number of records held
+abbrev pub outcomeOf : Board → Ruled → Outcome
+outcomeOf b r =
+    record { answer = r .answer; board = boardWith b (set (b .tracks) (r .at) (r .track)) (b .present) (b .points) (r .held) }

@@ -3,56 +3,89 @@ use board::Board;
 use board::rules::found;
 use board::rules::unbroken;
 use board::setup::Outcome;
-use board::setup::accepted;
-use board::setup::refused;
 use record::Record;
 use record::put_record;
+use track::Ticks;
+use track::Track;
 use track::grid::Decision;
 use track::grid::grid;
 use track::number::Natural;
 use track::setup::Answer;
+ghost use mathlib.Core.Path.{_≡_};
+ghost use Prim.Native.Nat.{_<_};
 ghost use lib.ListN.{length};
-ghost use Rattle.mode.specs.Ruling.{Follows, modeRuling};
+ghost use Rattle.track.specs.declared.setup.Answer.the-variants as answer;
+ghost use Rattle.points.specs.Points.{pointMost};
+ghost use Rattle.board.specs.Rule.{trackCount};
+ghost use Rattle.mode.specs.Ruling.{boardOf, Follows, modeRuling, outcomeOf};
 
-pub fn mode_call(b: Board, track: i64, call: u8, log: &mut [u8]) -> Outcome
-    ensures { λ r. ⌜ Follows (modeRuling b (length (now (log .entry))) track call) r (now (log .entry)) (now (log .exit)) ⌝ }
+// What a mode call comes to: the answer, the one track that it may change, and the number of records held.
+pub struct Ruled {
+    pub answer: Answer,
+    pub at: usize,
+    pub track: Track,
+    pub held: u64,
+}
+
+// Refused: the first track stands for the one that changes, and does not.
+fn declined(number: u8, first: Track, held: u64) -> Ruled
+    ensures { λ r. ⌜ r ≡ record { answer = answer.Refused number; at = 0; track = first; held = held } ⌝ }
 {
-    let tracks = b.tracks;
-    if !unbroken(
-        tracks,
-        b.present,
-        b.clock,
-        &b.points.keys,
-        &b.points.infos,
-        b.points.count,
-    ) {
-        return refused(Answer::VALUE, b);
+    Ruled {
+        answer: Answer::Refused(number),
+        at: 0,
+        track: first,
+        held,
+    }
+}
+
+// The call on a board that is given by its parts.
+pub fn judge<'a>(
+    tracks: [Track; Board::TRACKS],
+    present: u16,
+    clock: Ticks,
+    keys: &'a [u32],
+    infos: &'a [u32],
+    n: usize,
+    held: u64,
+    track: i64,
+    call: u8,
+    log: &mut [u8],
+) -> Ruled
+    requires { ⌜ (length (now keys) ≡ pointMost) × (length (now infos) ≡ pointMost) ⌝ }
+    ensures follows { λ r. ⌜ Follows (modeRuling (boardOf tracks present (now (keys .entry)) (now (infos .entry)) n (clock .0) held) (length (now (log .entry))) track call) (outcomeOf (boardOf tracks present (now (keys .entry)) (now (infos .entry)) n (clock .0) held) r) (now (log .entry)) (now (log .exit)) ⌝ }
+    ensures inside { λ r. ⌜ r .at < trackCount ⌝ }
+{
+    let first = tracks[0];
+    if !unbroken(tracks, present, clock, keys, infos, n) {
+        return declined(Answer::VALUE, first, held);
     }
     let capacity = (log.len() / Record::WIDTH) as u64;
-    let held = b.held;
     if capacity < held {
-        return refused(Board::CAPACITY, b);
+        return declined(Board::CAPACITY, first, held);
     }
-    let Natural::In(i) = found(b.present, track) else {
-        return refused(Board::TRACK, b);
+    let Natural::In(i) = found(present, track) else {
+        return declined(Board::TRACK, first, held);
     };
     let at = i as usize;
     let t = tracks[at];
     let mode = t.mode;
     let Decision::Goes(new) = grid(mode, call) else {
-        return refused(Answer::MODE, b);
+        return declined(Answer::MODE, first, held);
     };
-    let mut board = b;
     let after = t.entered(new);
-    board.tracks[at] = after;
     let event = t.action(mode, new);
     if event == 0 {
-        return accepted(board);
+        return Ruled {
+            answer: Answer::Accepted,
+            at,
+            track: after,
+            held,
+        };
     }
     if capacity <= held {
-        return refused(Board::ROOM, b);
+        return declined(Board::ROOM, first, held);
     }
-    let clock = b.clock;
     let position = t.position;
     let passes = t.passes;
     let r = Record {
@@ -65,6 +98,36 @@ pub fn mode_call(b: Board, track: i64, call: u8, log: &mut [u8]) -> Outcome
         passes,
     };
     put_record(r, log, held as usize * Record::WIDTH);
-    board.held = held + 1;
-    accepted(board)
+    Ruled {
+        answer: Answer::Accepted,
+        at,
+        track: after,
+        held: held + 1,
+    }
+}
+
+// The call on a board.
+pub fn mode_call(b: Board, track: i64, call: u8, log: &mut [u8]) -> Outcome
+    ensures { λ r. ⌜ Follows (modeRuling b (length (now (log .entry))) track call) r (now (log .entry)) (now (log .exit)) ⌝ }
+{
+    let tracks = b.tracks;
+    let r = judge(
+        tracks,
+        b.present,
+        b.clock,
+        &b.points.keys,
+        &b.points.infos,
+        b.points.count,
+        b.held,
+        track,
+        call,
+        log,
+    );
+    let answer = r.answer;
+    let at = r.at;
+    let after = r.track;
+    let mut board = b;
+    board.tracks[at] = after;
+    board.held = r.held;
+    Outcome { answer, board }
 }

@@ -2,7 +2,7 @@
 use Prim.Native.Nat.{ℕ, zero, suc, _+_, _-_, _*_, _≤_, _<_}
 use mathlib.Core.Path.{_≡_, refl, sym, _∙_, ap, subst}
 use mathlib.Core.Bool.{true, false, _&&_}
-use mathlib.Core.List.{List, []}
+use mathlib.Core.List.{List, [], _∷_}
 use mathlib.Core.Option.{Option, none, some}
 use native.Mathlib.Nat.{add-zero, zero-add, mul-comm}
 use native.Mathlib.Omega.{arith}
@@ -223,6 +223,17 @@ module _ (b : Board) (log : List ℕ) (ts : List Track) (clock held r : ℕ) (l 
       (λ j. world (boardAt b (quiet-stage k (omega arith) j .tracks) (e j) held) log)
       (tick-keeps (boardAt b (leapt k) (clock + k) held) held (keeps-at u k (omega arith) (omega arith)) (omega arith))
 
+-- none are quiet, if nothing is known
+pub calm-none : (ks : List ℕ) (ts : List Track) (is : List ℕ) → Each (λ i. Calm ks 0 i (trackAt ts i)) is
+unfolding Each
+calm-none ks ts [] = tt
+calm-none ks ts (i ∷ is) = (λ j h. absurd (omega arith), calm-none ks ts is)
+
+-- what the code leaps, by the word that it keeps
+pub leap-is : (k present word : ℕ) (ts : List Track) → word ≡ playingWord present ts → length ts ≡ 16
+    → leapInto k ts (members word) ts ≡ leapTracks k present ts
+leap-is k present word ts e l = ap (λ (w : ℕ). leapInto k ts (members w) ts) e ∙ leap-into k present ts l
+
 -- as many quiet ticks as are leapt are taken
 pub going-leap : (b : Board) (count : ℕ) (log₀ log : List ℕ) (ts : List Track) (clock held taken : ℕ) (answer : Advanced) →
     Going b count log₀ log ts clock held taken answer → (word r k : ℕ) → word ≡ playingWord (b .present) ts →
@@ -253,7 +264,12 @@ going-leap b count log₀ log ts clock held taken answer g word r k ew able calm
       tracks-long = ap length e ∙ leap-tracks-long k (b .present) ts ∙ g .tracks-long;
     }
 
--- ---- the ways out of `advance`
+-- ---- the ways out of `proceed` and `advance`
+
+-- by the count as it was given
+pub advance-told : (b : Board) (log : List ℕ) {told given : ℤ} → told ≡ given → {reply : Reply} {board : Board} {after : List ℕ} →
+    Gives (does (call.Advance told) (world b log)) reply board after → Gives (does (call.Advance given) (world b log)) reply board after
+advance-told b log e {reply} {board} {after} g = subst (λ (n : ℤ). Gives (does (call.Advance n) (world b log)) reply board after) e g
 
 module _ (b : Board) (log : List ℕ) (count : ℤ) where
   abbrev given : Did Reply (World Board)

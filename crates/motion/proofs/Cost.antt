@@ -7,14 +7,13 @@ use mathlib.Core.List.{List, [], _∷_}
 use mathlib.Core.Option.{none, some}
 use native.Mathlib.Omega.{arith}
 use native.Mathlib.Nat.{zero-add}
-use lib.Dec.{leb}
+use lib.Dec.{eqb, leb}
 use lib.ListN.{length}
 use lib.Seq.{length-sets}
 use borrow.Author.Tests.{le-leb, lt-leb}
 use Rattle.track.specs.declared.Track.{Track}
 use Rattle.track.specs.Rule.{clockEnd}
 use Rattle.track.specs.Leap.{leap}
-use Rattle.track.proofs.Leaps.{leap-zero}
 use Rattle.board.specs.declared.Board.{Board}
 use Rattle.points.specs.Points.{keysOf, infosOf}
 use Rattle.board.specs.Rule.{trackAt, pointAt}
@@ -25,15 +24,14 @@ use Rattle.replay.specs.Replay.{World, w-halt, w-step}
 use Rattle.replay.proofs.Cuts.{ticks-on, ticks-off}
 use Rattle.tick.specs.Word.{members}
 use Rattle.tick.specs.Tick.{playingWord, tickOf}
-use Rattle.tick.specs.Quiet.{Each, Some, loud, Calm, Fewest, Leapable, leapTracks}
+use Rattle.tick.specs.Quiet.{Each, Some, loud, Calm, Fewest, leapTracks}
 use Rattle.mode.specs.Ruling.{capacity}
 use Rattle.motion.specs.Does.{Stop, ends, fills, haltOf, gridstep}
-use Rattle.motion.specs.Cost.{playingCount, Stretch, leapOf, leapt, TickTurns, done, ended, leaps, filled, walks}
-use Rattle.tick.proofs.Players.{some-playing, some-member}
-use Rattle.tick.proofs.LeapLaws.{leap-into, leap-tracks-long, leap-tracks-word, leap-tracks-min, leap-tracks-max, leap-tracks-sound, some-leapt, unbroken-able, unbroken-telling}
+use Rattle.motion.specs.Cost.{playingCount, mostOf, Ahead, leapt, TickTurns, done, ended, leaps, filled, walks}
+use Rattle.tick.proofs.LeapLaws.{leap-into, leap-tracks-long, leap-tracks-word, leap-tracks-min, leap-tracks-max, leap-tracks-sound, unbroken-able, unbroken-telling}
 use Rattle.tick.proofs.Steps.{members-most}
 use Rattle.motion.proofs.Machine.{halt-none, tick-whole}
-use Rattle.motion.proofs.Advancing.{going-start, going-leap}
+use Rattle.motion.proofs.Advancing.{going-start, going-leap, calm-none}
 use Rattle.motion.proofs.Walked.{tick-starts, walked-tick}
 
 -- ---- a leap
@@ -67,123 +65,123 @@ leapt-whole k u w h =
 leapt-playing : (k : ℕ) (u : World Board) → playingCount (leapt k u .board) ≡ playingCount (u .board)
 leapt-playing k u = ap (λ (w : ℕ). length (members w)) (leap-tracks-word k (u .board .present) (u .board .tracks))
 
--- the next step of a playing track reaches a point or stops it
-abbrev Loud : Board → Type 0
-Loud b = Some (λ i. loud (keysOf (b .points)) i (trackAt (b .tracks) i) ≡ true) (members (playingWord (b .present) (b .tracks)))
+-- ---- what a turn leaps
 
--- after a leap over all quiet ticks it does
-leapt-loud : (u : World Board) (r : ℕ) → Whole (u .board) → Stretch (u .board) r → r < clockEnd → Loud (leapt r u .board)
-leapt-loud u r w s h =
-    let b = u .board in
-    let ks = keysOf (b .points) in
-    let l = w .shaped .tracks in
-    some-member (λ n t. loud ks n t ≡ true) (b .present) (leapTracks r (b .present) (b .tracks)) (leap-tracks-long r (b .present) (b .tracks) ∙ l)
-    (some-leapt (λ n t. loud ks n t ≡ true) r 0 (b .present) (b .tracks)
-    (some-playing (λ n t. loud ks n (leap t r) ≡ true) (b .present) (b .tracks) l (s .exact h)))
+-- no more than can be taken
+ahead-fewer : (look : Bool) (left : ℕ) (u : World Board) (k : ℕ) → Ahead look left u k → k ≤ mostOf left u
+ahead-fewer true left u k a = omega (arith, a .2)
+ahead-fewer false left u k a = omega arith
 
--- with quiet ticks ahead it does not
-clash : (ks : List ℕ) (ts : List Track) (r : ℕ) → 0 < r → (is : List ℕ) → Some (λ i. loud ks i (trackAt ts i) ≡ true) is
-    → Each (λ i. Calm ks r i (trackAt ts i)) is → Leapable ts is → ⊥
-unfolding Some Each
-clash ks ts r p [] s c a = s
-clash ks ts r p (i ∷ is) (inl s) c a =
-    true≢false (sym s ∙ ap (loud ks i) (sym (leap-zero (trackAt ts i) (a .0 .valid))) ∙ c .0 0 p)
-clash ks ts r p (i ∷ is) (inr s) c a = clash ks ts r p is s (c .1) (a .1)
-
-stretch-none : (b : Board) (r : ℕ) → Whole b → Stretch b r → 0 < r → Loud b → ⊥
-stretch-none b r w s p h =
-    clash (keysOf (b .points)) (b .tracks) r p (members (playingWord (b .present) (b .tracks))) h (s .quiet)
-    (unbroken-able b (w .shaped) (w .unbroken))
+-- and only quiet ticks
+ahead-calm : (look : Bool) (left : ℕ) (u : World Board) (k : ℕ) → Ahead look left u k
+    → (r : ℕ) × (k ≤ r) × Each (λ i. Calm (keysOf (u .board .points)) r i (trackAt (u .board .tracks) i)) (members (playingWord (u .board .present) (u .board .tracks)))
+ahead-calm true left u k a = (a .0, omega (arith, a .2), a .1 .quiet)
+ahead-calm false left u k a = (0, omega arith, calm-none (keysOf (u .board .points)) (u .board .tracks) (members (playingWord (u .board .present) (u .board .tracks))))
 
 -- ---- a walked tick
 
--- it pays for two turns: by four for each record that it writes, and two for each track that plays no more
-walk-pays : (u : World Board) → Whole (u .board) → Stretch (u .board) 0
-    → 2 * playingCount (w-step gridstep u .board) + 2 ≤ 2 * playingCount (u .board) + 4 * length (tickOf (u .board) .records)
-walk-pays u w s =
+-- the records that the tick after a leap writes, and the tracks that play after it
+abbrev writes : ℕ → World Board → ℕ
+writes k u = length (tickOf (leapt k u .board) .records)
+
+abbrev playing : ℕ → World Board → ℕ
+playing k u = playingCount (w-step gridstep (leapt k u) .board)
+
+-- no more tracks begin to play than it writes records
+walk-starts : (k : ℕ) (u : World Board) → Whole (u .board) → playing k u ≤ playingCount (u .board) + writes k u
+walk-starts k u w =
     let b = u .board in
-    let ks = keysOf (b .points) in
-    let ds = infosOf (b .points) in
-    let l = w .shaped .tracks in
-    let a = tick-starts ks ds (b .clock .0 + 1) (b .present) (b .tracks) l in
-    ⊎-elim (λ (h : 0 < length (tickOf b .records)). omega arith)
-    (λ (h : playingCount (w-step gridstep u .board) < playingCount b). omega arith)
-    (walked-tick ks ds (b .clock .0 + 1) (b .present) (b .tracks) l (unbroken-able b (w .shaped) (w .unbroken))
-    (unbroken-telling b (w .shaped) (w .unbroken)) {a = clockEnd} (omega arith) s)
+    let t = tick-starts (keysOf (b .points)) (infosOf (b .points)) (b .clock .0 + k + 1) (b .present) (leapTracks k (b .present) (b .tracks))
+    (leap-tracks-long k (b .present) (b .tracks) ∙ w .shaped .tracks) in
+    omega (arith, leapt-playing k u)
+
+-- where the turn looked, it writes a record or leaves fewer playing
+walk-loud : (left k : ℕ) (u : World Board) → Whole (u .board) → Ahead true left u k → k < mostOf left u → (0 < writes k u) ⊎ (playing k u < playingCount (u .board))
+walk-loud left k u w a h =
+    let b = u .board in
+    let e : k ≡ a .0 = omega (arith, a .2) in
+    rw e
+    (walked-tick (keysOf (b .points)) (infosOf (b .points)) (b .clock .0 + a .0 + 1) (b .present) (b .tracks) (w .shaped .tracks)
+    (unbroken-able b (w .shaped) (w .unbroken)) (unbroken-telling b (w .shaped) (w .unbroken)) clockEnd (a .0) (a .1) (omega arith))
 
 -- ---- the turns
 
--- What n turns with `left` ticks to do are bounded by: less by one if the first of them can't leap, and few at the end.
-record Bound (n left : ℕ) (u v : World Board) : Type 0 where
+-- how many turns there may be beside those that are paid for: one more if the next doesn't look for a leap
+abbrev spare : Bool → ℕ
+spare look = cond look 2 3
+
+-- What n turns with `left` ticks to do are bounded by: three for each record, one for each track that plays, and few at the end.
+record Bound (n : ℕ) (look : Bool) (left : ℕ) (u v : World Board) : Type 0 where
   more : u .board .held ≤ v .board .held
-  few : n + 4 * u .board .held ≤ 4 * v .board .held + 2 * playingCount (u .board) + 2
-  walking : Loud (u .board) → n + 4 * u .board .held ≤ 4 * v .board .held + 2 * playingCount (u .board) + 1
+  few : n + 3 * u .board .held ≤ 3 * v .board .held + playingCount (u .board) + spare look
   none-left : left ≡ 0 → n ≡ 0
   clock-out : u .board .clock .0 ≡ clockEnd → n ≤ 1
 
--- one turn more
-leap-bound : (n left r : ℕ) (u v : World Board) → Whole (u .board) → 0 < left → u .board .clock .0 < clockEnd → Stretch (u .board) r
-    → 0 < leapOf r left u → Bound n (left - leapOf r left u) (leapt (leapOf r left u) u) v → Bound (suc n) left u v
-leap-bound n left r u v w p c s q i =
+some-spare : (look : Bool) → 2 ≤ spare look
+some-spare true = omega arith
+some-spare false = omega arith
+
+spare-most : (look : Bool) → spare look ≤ 3
+spare-most true = omega arith
+spare-most false = omega arith
+
+-- a leap over all that can be taken: only a turn that is left follows
+leap-bound : (n left k : ℕ) (look : Bool) (u v : World Board) → 0 < left → u .board .clock .0 < clockEnd → k ≡ mostOf left u
+    → Bound n look (left - k) (leapt k u) v → Bound (suc n) look left u v
+leap-bound n left k look u v p c e i =
     record {
       more = i .more;
-      few = ⊎-elim whole cut (lt-or-ge r (min left (clockEnd - u .board .clock .0)));
-      walking = λ h. absurd (stretch-none (u .board) r w s (omega arith) h);
+      few =
+          let s = some-spare look in
+          ⊎-elim
+          (λ (g : left < clockEnd - u .board .clock .0). omega (arith, i .more, i .none-left (omega arith)))
+          (λ (g : clockEnd - u .board .clock .0 ≤ left). omega (arith, i .more, i .clock-out (omega arith)))
+          (lt-or-ge left (clockEnd - u .board .clock .0));
+      none-left = λ e. absurd (omega arith);
+      clock-out = λ e. absurd (omega arith);
+    }
+
+-- a tick with records pays for its turn, and one without by a track that plays no more or by the spare turn
+walk-few : (m h R a b : ℕ) (n : ℕ) → n + 3 * (h + R) ≤ 3 * m + b + spare (eqb R 0) → b ≤ a + R → (look : Bool) → ((look ≡ true) → (0 < R) ⊎ (b < a))
+    → suc n + 3 * h ≤ 3 * m + a + spare look
+walk-few m h zero a b n i s true f = ⊎-elim (λ (p : 0 < 0). absurd (omega arith)) (λ (p : b < a). omega arith) (f refl)
+walk-few m h zero a b n i s false f = omega arith
+walk-few m h (suc R) a b n i s true f = omega (arith, spare-most (eqb (suc R) 0))
+walk-few m h (suc R) a b n i s false f = omega (arith, spare-most (eqb (suc R) 0))
+
+walk-bound : (n left k : ℕ) (look : Bool) (u v : World Board) → Whole (u .board) → 0 < left → u .board .clock .0 < clockEnd → Ahead look left u k
+    → k < mostOf left u → Bound n (eqb (writes k u) 0) (left - k - 1) (w-step gridstep (leapt k u)) v → Bound (suc n) look left u v
+walk-bound n left k look u v w p c a h i =
+    record {
+      more = omega (arith, i .more);
+      few = walk-few (v .board .held) (u .board .held) (writes k u) (playingCount (u .board)) (playing k u) n (i .few) (walk-starts k u w) look (loud look a);
       none-left = λ e. absurd (omega arith);
       clock-out = λ e. absurd (omega arith);
     }
   where
-    Few : Type 0
-    Few = suc n + 4 * u .board .held ≤ 4 * v .board .held + 2 * playingCount (u .board) + 2
+    loud : (look : Bool) → Ahead look left u k → (look ≡ true) → (0 < writes k u) ⊎ (playing k u < playingCount (u .board))
+    loud true a e = walk-loud left k u w a h
+    loud false a e = absurd (true≢false (sym e))
 
-    -- over all quiet ticks: the next turn can't leap
-    whole : r < min left (clockEnd - u .board .clock .0) → Few
-    whole h =
-        let e : r ≡ leapOf r left u = omega arith in
-        let l = subst (λ (k : ℕ). Loud (leapt k u .board)) e (leapt-loud u r w s (omega arith)) in
-        omega (arith, i .walking l, leapt-playing (leapOf r left u) u)
+bound : {n : ℕ} {look : Bool} {left : ℕ} {u v : World Board} → Whole (u .board) → TickTurns n look left u v → Bound n look left u v
+bound w (done {look = look}) = record { more = omega arith; few = let s = some-spare look in omega arith; none-left = λ e. refl; clock-out = λ e. omega arith }
+bound w (ended {look = look} p e) =
+    record { more = omega arith; few = let s = some-spare look in omega arith; none-left = λ e. absurd (omega arith); clock-out = λ e. omega arith }
+bound w (filled {look = look} k p c a h f) =
+    record { more = omega arith; few = let s = some-spare look in omega arith; none-left = λ e. absurd (omega arith); clock-out = λ e. omega arith }
+bound w (leaps {n = n} {look = look} {left = left} {u = u} {v = v} k p c a e t) =
+    leap-bound n left k look u v p c e (bound (leapt-whole k u w (omega arith)) t)
+bound w (walks {n = n} {look = look} {left = left} {u = u} {v = v} k p c a h f t) =
+    walk-bound n left k look u v w p c a h (bound (tick-whole (leapt k u .board) (leapt-whole k u w (omega arith)) _ (omega arith)) t)
 
-    -- cut by the count or the clock: no turn follows that leaps or walks
-    cut : min left (clockEnd - u .board .clock .0) ≤ r → Few
-    cut h =
-        ⊎-elim
-        (λ (g : left < clockEnd - u .board .clock .0). omega (arith, i .more, i .none-left (omega arith)))
-        (λ (g : clockEnd - u .board .clock .0 ≤ left). omega (arith, i .more, i .clock-out (omega arith)))
-        (lt-or-ge left (clockEnd - u .board .clock .0))
-
-walk-bound : (n left r : ℕ) (u v : World Board) → Whole (u .board) → 0 < left → u .board .clock .0 < clockEnd → Stretch (u .board) r
-    → leapOf r left u ≡ 0 → Bound n (left - 1) (w-step gridstep u) v → Bound (suc n) left u v
-walk-bound n left r u v w p c s q i =
-    let z : r ≡ 0 = omega arith in
-    let a = walk-pays u w (rw z at s) in
-    record {
-      more = omega (arith, i .more);
-      few = omega (arith, i .few);
-      walking = λ h. omega (arith, i .few);
-      none-left = λ e. absurd (omega arith);
-      clock-out = λ e. absurd (omega arith);
-    }
-
-bound : {n left : ℕ} {u v : World Board} → Whole (u .board) → TickTurns n left u v → Bound n left u v
-bound w done = record { more = omega arith; few = omega arith; walking = λ h. omega arith; none-left = λ e. refl; clock-out = λ e. omega arith }
-bound w (ended p e) =
-    record { more = omega arith; few = omega arith; walking = λ h. omega arith; none-left = λ e. absurd (omega arith); clock-out = λ e. omega arith }
-bound w (filled r p c s q f) =
-    record { more = omega arith; few = omega arith; walking = λ h. omega arith; none-left = λ e. absurd (omega arith); clock-out = λ e. omega arith }
-bound w (leaps {n = n} {left = left} {u = u} {v = v} r p c s q t) =
-    leap-bound n left r u v w p c s q (bound (leapt-whole (leapOf r left u) u w (omega arith)) t)
-bound w (walks {n = n} {left = left} {u = u} {v = v} r p c s q f t) =
-    walk-bound n left r u v w p c s q (bound (tick-whole (u .board) w _ c) t)
-
--- The turns are at most four for each record written, two for each track that plays at first, and two more: a tick is walked
--- only where it writes a record or a track stops, a track begins to play only at a point that writes one, and between two
--- walked ticks there is at most one leap.
-pub turns-few : {n count : ℕ} {u v : World Board} → Whole (u .board) → TickTurns n count u v
-    → n ≤ 4 * (v .board .held - u .board .held) + 2 * playingCount (u .board) + 2
+-- The turns are at most three for each record written, one for each track that plays at first, and three more: after a tick without
+-- records the next that is walked writes one or stops a track, and a track begins to play only at a point that writes one.
+pub turns-few : {n count : ℕ} {u v : World Board} → Whole (u .board) → TickTurns n false count u v
+    → n ≤ 3 * (v .board .held - u .board .held) + playingCount (u .board) + 3
 turns-few w t = let b = bound w t in omega (arith, b .more, b .few)
 
 -- sixteen tracks play at most
-pub turns-bound : {n count : ℕ} {u v : World Board} → Whole (u .board) → TickTurns n count u v → n ≤ 4 * (v .board .held - u .board .held) + 34
+pub turns-bound : {n count : ℕ} {u v : World Board} → Whole (u .board) → TickTurns n false count u v → n ≤ 3 * (v .board .held - u .board .held) + 19
 turns-bound {u = u} w t =
     omega (arith, turns-few w t, members-most 16 0 (playingWord (u .board .present) (u .board .tracks)))
 
@@ -193,15 +191,15 @@ turns-bound {u = u} w t =
 abbrev pub goes : ℕ → World Board → World Board
 goes count u = ticks (w-halt gridstep) (w-step gridstep) count u .end
 
-leap-goes : (r left : ℕ) (u : World Board) → Whole (u .board) → u .board .held ≤ capacity (length (u .log)) → Stretch (u .board) r
-    → goes (left - leapOf r left u) (leapt (leapOf r left u) u) ≡ goes left u
-leap-goes r left u w f s =
+leap-goes : (look : Bool) (left k : ℕ) (u : World Board) → Whole (u .board) → u .board .held ≤ capacity (length (u .log)) → Ahead look left u k
+    → goes (left - k) (leapt k u) ≡ goes left u
+leap-goes look left k u w f a =
     let b = u .board in
-    let k = leapOf r left u in
-    let word = playingWord (b .present) (b .tracks) in
+    let q = ahead-calm look left u k a in
+    let l = ahead-fewer look left u k a in
     let g = going-start b left (u .log) (whole-test b w) f (w .shaped .tracks) in
-    let h = going-leap b left (u .log) (u .log) (b .tracks) (b .clock .0) (b .held) 0 _ g word r k refl
-    (unbroken-able b (w .shaped) (w .unbroken)) (s .quiet) (omega arith) (omega arith) (omega arith)
+    let h = going-leap b left (u .log) (u .log) (b .tracks) (b .clock .0) (b .held) 0 _ g (playingWord (b .present) (b .tracks)) (q .0) k refl
+    (unbroken-able b (w .shaped) (w .unbroken)) (q .2) (q .1) (omega arith) (omega arith)
     {next = leapTracks k (b .present) (b .tracks)} (sym (leap-into k (b .present) (b .tracks) (w .shaped .tracks))) (w .unbroken .clock) in
     ap (λ (m : ℕ). goes (left - m) (leapt k u)) (sym (zero-add k)) ∙ sym (ap (λ (x : Ran Stop (World Board)). x .end) (h .so-far))
 
@@ -235,16 +233,18 @@ unfolding haltOf
 end-halts u e = simp (le-leb clockEnd (u .board .clock .0) (omega arith))
 
 -- however the turns go, they end where the ticks end
-pub turns-end : {n count : ℕ} {u v : World Board} → Whole (u .board) → u .board .held ≤ capacity (length (u .log)) → TickTurns n count u v
-    → goes count u ≡ v
+pub turns-end : {n : ℕ} {look : Bool} {count : ℕ} {u v : World Board} → Whole (u .board) → u .board .held ≤ capacity (length (u .log))
+    → TickTurns n look count u v → goes count u ≡ v
 unfolding ticks
 turns-end w f done = refl
 turns-end w f (ended {left = left} {u = u} p e) = stop-goes left u ends p (end-halts u e)
-turns-end w f (filled {left = left} {u = u} r p c s q h) = stop-goes left u fills p h
-turns-end w f (leaps {left = left} {u = u} r p c s q t) =
-    sym (leap-goes r left u w f s) ∙ turns-end (leapt-whole (leapOf r left u) u w (omega arith)) f t
-turns-end w f (walks {left = left} {u = u} r p c s q h t) =
-    sym (walk-goes left u p h) ∙ turns-end (tick-whole (u .board) w _ c) (walk-fits u h) t
+turns-end w f (filled {look = look} {left = left} {u = u} k p c a l h) =
+    sym (leap-goes look left k u w f a) ∙ stop-goes (left - k) (leapt k u) fills (omega arith) h
+turns-end w f (leaps {look = look} {left = left} {u = u} k p c a e t) =
+    sym (leap-goes look left k u w f a) ∙ turns-end (leapt-whole k u w (omega arith)) f t
+turns-end w f (walks {look = look} {left = left} {u = u} k p c a l h t) =
+    sym (leap-goes look left k u w f a) ∙ sym (walk-goes (left - k) (leapt k u) (omega arith) h)
+    ∙ turns-end (tick-whole (leapt k u .board) (leapt-whole k u w (omega arith)) _ (omega arith)) (walk-fits (leapt k u) h) t
 
 -- ---- there are such turns
 
@@ -265,11 +265,6 @@ module _ (ks : List ℕ) (ts : List Track) where
       go true e rest = inl (inl e)
       go false e rest = ⊎-elim (λ s. inl (inr s)) (λ n. inr (e, n)) rest
 
-  calm-none : (is : List ℕ) → Each (λ i. Calm ks 0 i (trackAt ts i)) is
-  unfolding Each
-  calm-none [] = tt
-  calm-none (i ∷ is) = (λ j h. absurd (omega arith), calm-none is)
-
   calm-next : (r : ℕ) (is : List ℕ) → Each (λ i. Calm ks r i (trackAt ts i)) is → Each (λ i. loud ks i (leap (trackAt ts i) r) ≡ false) is
       → Each (λ i. Calm ks (suc r) i (trackAt ts i)) is
   unfolding Each
@@ -281,7 +276,7 @@ module _ (ks : List ℕ) (ts : List Track) where
   )
 
   fewest : (a : ℕ) (is : List ℕ) → (r : ℕ) × Fewest ks ts is a r
-  fewest zero is = (0, record { small = omega arith; quiet = calm-none is; exact = λ h. absurd (omega arith) })
+  fewest zero is = (0, record { small = omega arith; quiet = calm-none ks ts is; exact = λ h. absurd (omega arith) })
   fewest (suc a) is = go (fewest a is .0) (fewest a is .1)
     where
       go : (r : ℕ) → Fewest ks ts is a r → (r : ℕ) × Fewest ks ts is (suc a) r
@@ -293,50 +288,59 @@ module _ (ks : List ℕ) (ts : List Track) where
           (lt-or-ge r a)
 
 -- some number of turns
-abbrev Found : ℕ → World Board → Type 0
-Found left u = (n : ℕ) × (v : World Board) × TickTurns n left u v
+abbrev Found : Bool → ℕ → World Board → Type 0
+Found look left u = (n : ℕ) × (v : World Board) × TickTurns n look left u v
 
-module _ (left : ℕ) (u : World Board) (w : Whole (u .board)) (ih : (m : ℕ) (x : World Board) → m ≤ left → Whole (x .board) → Found m x) where
-  walk-found : (r : ℕ) → u .board .clock .0 < clockEnd → Stretch (u .board) r → leapOf r (suc left) u ≡ 0 → Found (suc left) u
-  walk-found r c s z =
+-- a turn leaps some number of ticks
+found-ahead : (look : Bool) (left : ℕ) (u : World Board) → (k : ℕ) × Ahead look left u k
+found-ahead true left u =
+    let b = u .board in
+    let f = fewest (keysOf (b .points)) (b .tracks) clockEnd (members (playingWord (b .present) (b .tracks))) in
+    (min (f .0) (mostOf left u), (f .0, f .1, refl))
+found-ahead false left u = (0, refl)
+
+module _ (left : ℕ) (look : Bool) (u : World Board) (w : Whole (u .board))
+    (ih : (look : Bool) (m : ℕ) (x : World Board) → m ≤ left → Whole (x .board) → Found look m x) where
+  walk-found : (k : ℕ) → u .board .clock .0 < clockEnd → Ahead look (suc left) u k → k < mostOf (suc left) u → Found look (suc left) u
+  walk-found k c a l =
+      let q = leapt-whole k u w (omega arith) in
       ⊎-elim
       (λ n.
-      let f = ih (suc left - 1) (w-step gridstep u) (omega arith) (tick-whole (u .board) w _ c) in
-      (suc (f .0), f .1, walks r (omega arith) c s z n (f .2)))
-      (λ n. (1, u, filled r (omega arith) c s z n))
-      (halt-ways u c)
+      let f = ih (eqb (writes k u) 0) (suc left - k - 1) (w-step gridstep (leapt k u)) (omega arith) (tick-whole (leapt k u .board) q _ (omega arith)) in
+      (suc (f .0), f .1, walks {n = f .0} {v = f .1} k (omega arith) c a l n (f .2)))
+      (λ n. (1, leapt k u, filled k (omega arith) c a l n))
+      (halt-ways (leapt k u) (omega arith))
 
-  turn-found : (r : ℕ) → u .board .clock .0 < clockEnd → Stretch (u .board) r → Found (suc left) u
-  turn-found r c s =
+  turn-found : (k : ℕ) → u .board .clock .0 < clockEnd → Ahead look (suc left) u k → Found look (suc left) u
+  turn-found k c a =
+      let m = ahead-fewer look (suc left) u k a in
       ⊎-elim
-      (λ (p : 0 < leapOf r (suc left) u).
-      let k = leapOf r (suc left) u in
-      let f = ih (suc left - k) (leapt k u) (omega arith) (leapt-whole k u w (omega arith)) in
-      (suc (f .0), f .1, leaps r (omega arith) c s p (f .2)))
-      (λ (p : leapOf r (suc left) u ≤ 0). walk-found r c s (omega arith))
-      (lt-or-ge 0 (leapOf r (suc left) u))
+      (λ (p : k < mostOf (suc left) u). walk-found k c a p)
+      (λ (p : mostOf (suc left) u ≤ k).
+      let f = ih look (suc left - k) (leapt k u) (omega arith) (leapt-whole k u w (omega arith)) in
+      (suc (f .0), f .1, leaps {n = f .0} {v = f .1} k (omega arith) c a (omega arith) (f .2)))
+      (lt-or-ge k (mostOf (suc left) u))
 
-  next-found : Found (suc left) u
+  next-found : Found look (suc left) u
   next-found =
-      let b = u .board in
-      let f = fewest (keysOf (b .points)) (b .tracks) clockEnd (members (playingWord (b .present) (b .tracks))) in
+      let f = found-ahead look (suc left) u in
       ⊎-elim (λ c. turn-found (f .0) c (f .1))
-      (λ (e : clockEnd ≤ b .clock .0). (1, u, ended (omega arith) (omega (arith, w .unbroken .clock))))
-      (lt-or-ge (b .clock .0) clockEnd)
+      (λ (e : clockEnd ≤ u .board .clock .0). (1, u, ended (omega arith) (omega (arith, w .unbroken .clock))))
+      (lt-or-ge (u .board .clock .0) clockEnd)
 
-found : (fuel left : ℕ) (u : World Board) → left < fuel → Whole (u .board) → Found left u
-found zero left u h w = absurd (omega arith)
-found (suc fuel) left u h w = go left h (found fuel)
+found : (fuel : ℕ) (look : Bool) (left : ℕ) (u : World Board) → left < fuel → Whole (u .board) → Found look left u
+found zero look left u h w = absurd (omega arith)
+found (suc fuel) look left u h w = go left h (found fuel)
   where
-    go : (left : ℕ) → left < suc fuel → ((m : ℕ) (x : World Board) → m < fuel → Whole (x .board) → Found m x) → Found left u
+    go : (left : ℕ) → left < suc fuel → ((look : Bool) (m : ℕ) (x : World Board) → m < fuel → Whole (x .board) → Found look m x) → Found look left u
     go zero h ih = (0, u, done)
-    go (suc left) h ih = next-found left u w (λ m x l k. ih m x (omega arith) k)
+    go (suc left) h ih = next-found left look u w (λ l m x p k. ih l m x (omega arith) k)
 
--- So an advance of any count, on an unbroken board and a log with room for its held records, takes at most four turns for each
--- record that its ticks write and 34 more, however many ticks they are.
+-- So an advance of any count, on an unbroken board and a log with room for its held records, takes at most three turns for each
+-- record that its ticks write and 19 more, however many ticks they are.
 pub advance-turns : (count : ℕ) (u : World Board) → Whole (u .board) → u .board .held ≤ capacity (length (u .log))
-    → (n : ℕ) × TickTurns n count u (goes count u) × (n ≤ 4 * (goes count u .board .held - u .board .held) + 34)
+    → (n : ℕ) × TickTurns n false count u (goes count u) × (n ≤ 3 * (goes count u .board .held - u .board .held) + 19)
 advance-turns count u w h =
-    let f = found (suc count) count u (omega arith) w in
-    let t = subst (TickTurns (f .0) count u) (sym (turns-end w h (f .2))) (f .2) in
+    let f = found (suc count) false count u (omega arith) w in
+    let t = subst (TickTurns (f .0) false count u) (sym (turns-end w h (f .2))) (f .2) in
     (f .0, t, turns-bound w t)

@@ -15,13 +15,13 @@ use Rattle.record.specs.declared.Record.{Record}
 use Rattle.board.specs.Rule.{noTrack, trackAt}
 use Rattle.tick.specs.Word.{keep, members}
 use Rattle.tick.specs.Tick.{waits, targetOf, pointRecords, playBit, playingWord, Stage, staged, foundBy, stepRecords, reachedBy, stepMember, stepAll, obeyed, runCommand, runAll, tickFrom}
-use Rattle.tick.specs.Quiet.{Some, Telling, Fewest, Leapable, whereSet}
+use Rattle.tick.specs.Quiet.{Some, Telling, Fewest, Leapable, whereSet, leapTracks}
 use Rattle.points.proofs.Keys.{lt-or-ge}
 use Rattle.tick.proofs.PlayingLaws.{bit-small}
 use Rattle.tick.proofs.Players.{SomePlaying, players, members-playing, longer, some-playing}
 use Rattle.tick.proofs.Commands.{run-obeyed, run-more}
 use Rattle.tick.proofs.Steps.{tick-long}
-use Rattle.tick.proofs.LeapLaws.{leap-tracks-zero}
+use Rattle.tick.proofs.LeapLaws.{leap-tracks-long, leap-tracks-word}
 use Rattle.tick.proofs.Stretches.{maximal}
 
 -- ---- how many tracks play
@@ -242,12 +242,19 @@ module _ (ks ds : List ℕ) (clock present : ℕ) (ts : List Track) (l : length 
   pub tick-fewer : length (tick .records) ≤ 0 → Some (λ i. stops (trackAt ts i) ≡ true) (plays ts) → length (plays (tick .tracks)) < length (plays ts)
   tick-fewer h s = omega (arith, before, behind, count-fewer h (some-playing Stops present ts l s))
 
-  -- a tick with no quiet one ahead of it writes a record or leaves fewer playing
-  pub walked-tick : Leapable ts (plays ts) → Telling ks ds → {a : ℕ} → 0 < a → Fewest ks ts (plays ts) a 0
-      → (0 < length (tick .records)) ⊎ (length (plays (tick .tracks)) < length (plays ts))
-  walked-tick able tell {a} p f =
-      ⊎-elim inl
-      (λ s.
-      ⊎-elim (λ (w : 0 < length (tick .records)). inl w) (λ (w : length (tick .records) ≤ 0). inr (tick-fewer w s))
-      (lt-or-ge 0 (length (tick .records))))
-      (rw (leap-tracks-zero present ts l able) at (maximal ks ds present ts l able tell clock a 0 f p))
+-- after all quiet ticks, the next writes a record or leaves fewer playing
+pub walked-tick : (ks ds : List ℕ) (clock present : ℕ) (ts : List Track) → length ts ≡ 16 → Leapable ts (members (playingWord present ts))
+    → Telling ks ds → (a r : ℕ) → Fewest ks ts (members (playingWord present ts)) a r → r < a
+    → (0 < length (tickFrom ks ds clock present (leapTracks r present ts) .records))
+    ⊎ (length (members (playingWord present (tickFrom ks ds clock present (leapTracks r present ts) .tracks))) < length (members (playingWord present ts)))
+walked-tick ks ds clock present ts l able tell a r f p =
+    let us = leapTracks r present ts in
+    let lu = leap-tracks-long r present ts ∙ l in
+    let e = leap-tracks-word r present ts in
+    ⊎-elim inl
+    (λ s.
+    ⊎-elim (λ (w : 0 < length (tickFrom ks ds clock present us .records)). inl w)
+    (λ (w : length (tickFrom ks ds clock present us .records) ≤ 0).
+    inr (rw e at (tick-fewer ks ds clock present us lu w (rw e s))))
+    (lt-or-ge 0 (length (tickFrom ks ds clock present us .records))))
+    (maximal ks ds present ts l able tell clock a r f p)

@@ -10,14 +10,16 @@ use tick::quiet::quiet;
 use tick::quiet::smaller;
 use tick::run_commands;
 use tick::step_member;
+use tick::stirs;
 use track::Ticks;
 use track::Track;
 ghost use mathlib.Core.Path.{_≡_};
 ghost use mathlib.Core.Bool.{true};
 ghost use Prim.Native.Nat.{_≤_};
 ghost use lib.ListN.{length};
+ghost use Rattle.points.specs.Points.{pointMost};
 ghost use Rattle.board.specs.Rule.{unbrokenTest};
-ghost use Rattle.mode.specs.Ruling.{capacity};
+ghost use Rattle.mode.specs.Ruling.{boardOf, capacity};
 ghost use Rattle.replay.specs.Cut.{ticks};
 ghost use Rattle.replay.specs.Replay.{w-halt, w-step};
 ghost use Rattle.motion.specs.Does.{world, gridstep, Ended};
@@ -38,19 +40,32 @@ pub struct Left {
     pub held: usize,
 }
 
-// So many ticks of an unbroken board, unless the clock or the log ends them.
-pub fn run(b: Board, count: u32, log: &mut [u8]) -> Left
-    requires { ⌜ unbrokenTest b ≡ true ⌝ }
-    requires { ⌜ b .held ≤ capacity (length (now log)) ⌝ }
-    ensures { λ r. ⌜ Ended b (ticks (w-halt gridstep) (w-step gridstep) count (world b (now (log .entry)))) r (now (log .exit)) ⌝ }
+// So many ticks of an unbroken board, given by its parts, unless the clock or the log ends them. Each turn leaps the quiet ticks
+// ahead and walks the one behind them; a tick with records is followed at once by the next.
+pub fn run<'a>(
+    given: [Track; Board::TRACKS],
+    present: u16,
+    keys: &'a [u32],
+    infos: &'a [u32],
+    n: usize,
+    from: u32,
+    kept: usize,
+    count: u32,
+    log: &mut [u8],
+) -> Left
+    requires { ⌜ (length (now keys) ≡ pointMost) × (length (now infos) ≡ pointMost) ⌝ }
+    requires { ⌜ unbrokenTest (boardOf given present (now keys) (now infos) n from kept) ≡ true ⌝ }
+    requires { ⌜ kept ≤ capacity (length (now log)) ⌝ }
+    ensures { λ r. ⌜ Ended (boardOf given present (now (keys .entry)) (now (infos .entry)) n from kept) (ticks (w-halt gridstep) (w-step gridstep) count (world (boardOf given present (now (keys .entry)) (now (infos .entry)) n from kept) (now (log .entry)))) r (now (log .exit)) ⌝ }
 {
-    let present = b.present;
-    let n = b.points.count;
     let slots = log.len() / Record::WIDTH;
-    let mut tracks = b.tracks;
-    let mut clock = b.clock.0;
-    let mut held = b.held as usize;
+    let mut tracks = given;
+    let mut back = given;
+    let mut word = playing(given, present);
+    let mut clock = from;
+    let mut held = kept;
     let mut taken: u32 = 0;
+    let mut look = false;
     let mut stage = [0u8; 768];
     let mut reached = [0u32; Board::TRACKS];
     let mut answer = Advanced::Done(Ticks(0));
@@ -59,51 +74,69 @@ pub fn run(b: Board, count: u32, log: &mut [u8]) -> Left
             answer = Advanced::ClockEnd(Ticks(taken));
             break 'ticks;
         }
-        let word = playing(tracks, present);
-        let stretch = quiet(tracks, word, &b.points.keys, &b.points.infos, n);
-        let k = smaller(stretch.0, smaller(count - taken, Ticks::END - clock));
-        if 0 < k {
-            let moved = leapt(tracks, word, Ticks(k));
+        let most = smaller(count - taken, Ticks::END - clock);
+        let mut calm: u32 = 0;
+        if look {
+            let stretch = quiet(tracks, word, keys, infos, n);
+            calm = smaller(stretch.0, most);
+        }
+        if calm == most {
+            let moved = leapt(tracks, word, Ticks(most));
             tracks = moved;
-            clock += k;
-            taken += k;
+            clock += most;
+            taken += most;
             answer = Advanced::Done(Ticks(taken));
             continue 'ticks;
         }
         let room = slots - held;
-        let mut next = tracks;
+        if room < 48 {
+            let moved = leapt(tracks, word, Ticks(calm));
+            back = moved;
+        }
+        clock += calm;
+        taken += calm;
         let mut rest = word;
         let mut left = u16::count_ones(word);
         let mut staged: usize = 0;
         let mut m: usize = 0;
+        let mut stirred = false;
         while 0 < left {
             let i = u16::trailing_zeros(rest) as usize;
-            let t = next[i];
+            let s = tracks[i];
+            let t = s.leap(Ticks(calm));
             let l = t.arrival();
             let here = i as u32 * Points::STRIDE + l.0;
-            let d = Points::info_at(&b.points.keys, &b.points.infos, n, here);
+            let d = Points::info_at(keys, infos, n, here);
             let r = step_member(t, i as u8, clock + 1, d, &mut stage, staged);
             let after = r.track;
-            next[i] = after;
+            tracks[i] = after;
             staged = r.count;
             m = note(&mut reached, m, d);
+            stirred = stirs(stirred, d, after.mode);
             if room < staged {
+                tracks = back;
                 answer = Advanced::LogFull(Ticks(taken));
                 break 'ticks;
             }
             rest -= 1u16 << i;
             left -= 1;
         }
-        let done = run_commands(next, present, clock + 1, &reached, m, &mut stage, staged);
-        let total = done.count;
+        let mut total = staged;
+        if stirred {
+            let done = run_commands(tracks, present, clock + 1, &reached, m, &mut stage, staged);
+            total = done.count;
+            word = done.word;
+            let moved = done.tracks;
+            tracks = moved;
+        }
         if room < total {
+            tracks = back;
             answer = Advanced::LogFull(Ticks(taken));
             break 'ticks;
         }
         commit(log, held * Record::WIDTH, &stage, total * Record::WIDTH);
         held += total;
-        let moved = done.tracks;
-        tracks = moved;
+        look = total == 0;
         clock += 1;
         taken += 1;
         answer = Advanced::Done(Ticks(taken));

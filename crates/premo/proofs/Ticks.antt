@@ -28,7 +28,7 @@ use Rattle.tick.specs.Quiet.{Each}
 use Rattle.tick.specs.Tick.{waits, commandOf, targetOf, Stage, staged, reachedBy, playingWord, foundBy, stepMember, stepAll, commanded, obeyed, runAll, tickFrom, tickOf}
 use Rattle.tick.proofs.Commands.{obeyedIn, tracksRun, run-apart, tracks-first}
 use Rattle.tick.proofs.Players.{EachPlaying, each-member, bit-plays}
-use Rattle.tick.proofs.Steps.{members-ascend, foundAt, steppedIn, writtenBy, stepsFrom, steps-apart, steps-long, found-target}
+use Rattle.tick.proofs.Steps.{members-ascend, foundAt, steppedIn, writtenBy, stepsFrom, steps-apart, steps-below, steps-long, found-target}
 use Rattle.motion.specs.Does.{ticked}
 use Rattle.motion.proofs.Advancing.{whole-points}
 use Rattle.lists.specs.Arrivals.{Arrival, arrivalAt, arrivalsOf}
@@ -65,16 +65,6 @@ entered-mode t m = cond-cases (λ (u : Track). u .mode ≡ m) (eqb m STOPPED) (�
 -- ---- the steps
 
 module _ (keys infos : List ℕ) (clock : ℕ) where
-  -- a track below the members stays as it is
-  steps-below : (i lo : ℕ) (is : List ℕ) (s : Stage) → ascendingFrom lo is ≡ true → i < lo
-      → trackAt (stepAll keys infos clock is s .tracks) i ≡ trackAt (s .tracks) i
-  unfolding stepAll stepMember
-  steps-below i lo [] s a l = refl
-  steps-below i lo (k ∷ is) s a l =
-      let m = ascending-head lo k is a in
-      steps-below i (suc k) is (stepMember keys infos clock k s) (ascending-rest lo k is a) (omega arith)
-      ∙ getD-set-other (s .tracks) k i _ noTrack (λ e. absurd (omega arith))
-
   -- each member is stepped once, and no other track
   steps-at : (i lo : ℕ) (is : List ℕ) (s : Stage) → ascendingFrom lo is ≡ true → i < length (s .tracks) →
       let t = trackAt (s .tracks) i in
@@ -102,7 +92,7 @@ module _ (keys infos : List ℕ) (clock : ℕ) where
           → trackAt (stepAll keys infos clock is next .tracks) i ≡ cond (b || hasKey i is) (after i) (trackAt ts i)
       go ih rest true e =
           let q = eqb-true k i e in
-          steps-below i (suc k) is next rest (omega arith)
+          steps-below keys infos clock (λ (t : Track). t ≡ trackAt (next .tracks) i) i (suc k) is next rest (omega arith) refl
           ∙ ap (λ (j : ℕ). trackAt (set ts j (after j)) i) q ∙ getD-set-same ts i (after i) noTrack l
       go ih rest false e = ih ∙ ap other (getD-set-other ts k i (after k) noTrack (λ q. eqb-false k i e (sym q)))
 

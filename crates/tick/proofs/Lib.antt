@@ -9,3 +9,4 @@ pub mod LeapLaws
 pub mod Stretches
 pub mod Turns
 pub mod Members
+pub mod Turning

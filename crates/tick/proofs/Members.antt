@@ -36,17 +36,26 @@ take-write xs ys at h =
     ∙ take-at (take at xs ++ ys) (drop (at + length ys) xs) (at + length ys) l
 
 -- tracks of higher numbers are as they were
-each-set : (ts : List Track) (i : ℕ) (t : Track) (is : List ℕ) → ascendingFrom (suc i) is ≡ true → Leapable ts is → Leapable (set ts i t) is
+pub each-set : (P : Track → Type 0) (ts : List Track) (i : ℕ) (t : Track) (is : List ℕ) → ascendingFrom (suc i) is ≡ true
+    → Each (λ j. P (trackAt ts j)) is → Each (λ j. P (trackAt (set ts i t) j)) is
 unfolding Each
-each-set ts i t [] a e = tt
-each-set ts i t (j ∷ js) a e =
+each-set P ts i t [] a e = tt
+each-set P ts i t (j ∷ js) a e =
     let l : i < j = ascending-head (suc i) j js a in
     let r : ascendingFrom (suc i) js ≡ true = ascending-weaken (suc i) (suc j) js (omega arith) (ascending-rest (suc i) j js a) in
-    (subst Able (sym (getD-set-other ts i j t noTrack (λ q. omega arith))) (e .0), each-set ts i t js r (e .1))
+    (subst P (sym (getD-set-other ts i j t noTrack (λ q. omega arith))) (e .0), each-set P ts i t js r (e .1))
 
 no-ones : ones 0 ≡ 0
 unfolding ones onesIn
 no-ones = refl
+
+-- a word without ones has no member
+pub none-left : (rest : ℕ) → rest < 65536 → ones rest ≤ 0 → members rest ≡ []
+none-left rest small l = empty (members rest) (omega (arith, members-count rest small))
+  where
+    empty : (is : List ℕ) → length is ≤ 0 → is ≡ []
+    empty [] l = refl
+    empty (i ∷ is) l = absurd (omega arith)
 
 -- the members of a word of `rest` that are still to step
 pub record Stepping (b : Board) (ts : List Track) (clock word : ℕ) (stage reached : List ℕ) (next : List Track) (rest left count m : ℕ) : Type 0 where
@@ -106,11 +115,6 @@ module _ (b : Board) (ts : List Track) (clock word : ℕ) (stage reached : List 
       positive zero e = absurd (omega (arith, s .left-is, ap ones e, no-ones))
       positive (suc w) e = omega arith
 
-  -- it can be stepped
-  pub member-able : 0 < left → Able t
-  unfolding Each
-  member-able h = subst (λ (is : List ℕ). Leapable next is) (member-left h .rest) (s .able) .0
-
   -- one member stepped: its records staged, its point noted
   pub stepping-step : (h : 0 < left) (us : List Track) → pointsTest (b .present) us 0 (keysOf (b .points)) (infosOf (b .points)) ≡ true →
       {u : Track} {d count′ m′ : ℕ} {stage′ reached′ : List ℕ} → d ≡ found → u ≡ step t (waits d) →
@@ -142,7 +146,7 @@ module _ (b : Board) (ts : List Track) (clock word : ℕ) (stage reached : List 
             ∙ (λ j. s .bytes-are j ++ logBytes rs) ∙ sym (log-append (s .records) rs);
         left-is = omega arith;
         small = low .fits;
-        able = each-set next i u (members (cleared rest)) (ascending-rest 0 i (members (cleared rest)) ascends) (able .1);
+        able = each-set Able next i u (members (cleared rest)) (ascending-rest 0 i (members (cleared rest)) ascends) (able .1);
         rule = subst (λ (x : Track). TracksRule (b .present) (set next i x) (take m′ reached′)) (sym eu)
             (subst (TracksRule (b .present) (set next i (step t (waits d)))) (sym er)
             (step-rule (b .present) next (take m reached) i (waits d) d (s .rule)
@@ -189,7 +193,7 @@ module _ (b : Board) (ts : List Track) (clock word : ℕ) (ew : word ≡ playing
   stepping-done h {after} {total} {stage′} ea et es =
       let rs = recordsRun (clock + 1) (take m reached) next in
       let end : staged next (s .records) (take m reached) ≡ stepAll (keysOf (b .points)) (infosOf (b .points)) (clock + 1) (members (playingWord (b .present) ts)) (staged ts [] []) =
-      ap (λ (is : List ℕ). stepAll (keysOf (b .points)) (infosOf (b .points)) (clock + 1) is (staged next (s .records) (take m reached))) (sym none-left) ∙ s .work in
+      ap (λ (is : List ℕ). stepAll (keysOf (b .points)) (infosOf (b .points)) (clock + 1) is (staged next (s .records) (take m reached))) (sym (none-left rest (s .small) (omega (arith, s .left-is)))) ∙ s .work in
       let all : staged (tracksRun (clock + 1) (take m reached) next) (s .records ++ rs) (take m reached) ≡ tick =
       sym (run-apart (clock + 1) (take m reached) next (s .records) (take m reached)) ∙ ap (λ (x : Stage). runAll (clock + 1) (x .reached) x) end in
       let width : total * recordWidth ≡ count * recordWidth + length (logBytes rs) = omega (arith, length-log rs) in (
@@ -210,10 +214,3 @@ module _ (b : Board) (ts : List Track) (clock word : ℕ) (ew : word ≡ playing
             ))
             ∙ s .stage-long,
       )
-    where
-      empty : (is : List ℕ) → length is ≤ 0 → is ≡ []
-      empty [] l = refl
-      empty (i ∷ is) l = absurd (omega arith)
-
-      none-left : members rest ≡ []
-      none-left = empty (members rest) (omega (arith, members-count rest (s .small), s .left-is))

@@ -130,7 +130,7 @@ module _ (keys infos : List ℕ) (clock : ℕ) where
       steps-long is (stepMember keys infos clock i s) ∙ length-set (s .tracks) i (step (trackAt (s .tracks) i) (waits (foundAt i (s .tracks))))
 
   -- what holds of a track below the members, their steps keep
-  steps-below : (P : Track → Type 0) (i lo : ℕ) (is : List ℕ) (s : Stage) → ascendingFrom lo is ≡ true → i < lo
+  pub steps-below : (P : Track → Type 0) (i lo : ℕ) (is : List ℕ) (s : Stage) → ascendingFrom lo is ≡ true → i < lo
       → P (trackAt (s .tracks) i) → P (trackAt (stepAll keys infos clock is s .tracks) i)
   unfolding stepAll stepMember
   steps-below P i lo [] s a l p = p

@@ -1,7 +1,7 @@
 -- The tick of a board (01, "Tick of the board"), apart from the log and the number of records held.
 use Prim.Native.Nat.{ℕ, _+_, _*_, _/_, _%_, _≤_, _<_}
 use mathlib.Core.List.{List, [], _∷_, _++_}
-use mathlib.Core.Bool.{Bool, true, cond}
+use mathlib.Core.Bool.{Bool, true, cond, not, _||_}
 use mathlib.Core.Path.{_≡_}
 use lib.ListN.{length, set, getD}
 use lib.Dec.{eqb}
@@ -88,6 +88,10 @@ stepRecords clock i t d =
 
 abbrev pub reachedBy : ℕ → List ℕ
 reachedBy d = cond (eqb d 0) [] (d ∷ [])
+
+-- a step after which commands are to run, or other tracks play: its point has a command, or the track plays no more
+abbrev pub stirring : ℕ → ℕ → Bool
+stirring d mode = not (eqb (commandOf d) 0) || not (eqb mode PLAYING)
 
 unfoldable pub stepMember : List ℕ → List ℕ → ℕ → ℕ → Stage → Stage
 stepMember keys infos clock i s =

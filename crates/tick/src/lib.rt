@@ -9,6 +9,7 @@ use track::Track;
 use track::grid::Decision;
 use track::grid::grid;
 ghost use mathlib.Core.Path.{_≡_};
+ghost use mathlib.Core.Bool.{_||_};
 ghost use mathlib.Core.List.{[], _++_};
 ghost use Prim.Native.Nat.{_+_, _*_, _%_, _≤_, _<_};
 ghost use lib.ListN.{length, take, drop};
@@ -17,7 +18,7 @@ ghost use Rattle.track.specs.Grid.{gridOf};
 ghost use Rattle.track.specs.Walk.{step};
 ghost use Rattle.record.specs.Bytes.{writeAt};
 ghost use Rattle.record.specs.Record.{logBytes};
-ghost use Rattle.tick.specs.Tick.{waits, pointRecords, changeRecords, stepRecords, commandRecords, commanded, commandOf, obeyed, obeyedRecords, runAll, staged, reachedBy, playBit, playingWord, InfoRule, TracksRule};
+ghost use Rattle.tick.specs.Tick.{waits, pointRecords, changeRecords, stepRecords, commandRecords, commanded, commandOf, obeyed, obeyedRecords, runAll, staged, reachedBy, stirring, playBit, playingWord, InfoRule, TracksRule};
 
 pub mod quiet;
 
@@ -27,10 +28,11 @@ pub struct Staged {
     pub count: usize,
 }
 
-// The tracks after a tick's commands, and the number of records staged.
+// The tracks after a tick's commands, the number of records staged, and the word of the tracks that play then.
 pub struct Commanded {
     pub tracks: [Track; Board::TRACKS],
     pub count: usize,
+    pub word: u16,
 }
 
 // 1 where the track is PLAYING and the lowest bit of present is set.
@@ -163,6 +165,19 @@ pub fn note(reached: &mut [u32], m: usize, d: u32) -> usize
     m + 1
 }
 
+// Whether a tick has commands to run, or another word of tracks that play: a step has been such, or this one is.
+pub fn stirs(stirred: bool, d: u32, mode: u8) -> bool
+    ensures { λ r. ⌜ r ≡ (stirred || stirring d mode) ⌝ }
+{
+    if stirred {
+        return true;
+    }
+    if d / 131072 % 8 != 0 {
+        return true;
+    }
+    mode != Track::PLAYING
+}
+
 // The command of a point on its target.
 fn command(t: Track, clock: u32, d: u32, stage: &mut [u8], n: usize) -> Staged
     requires { ⌜ Valid t ⌝ }
@@ -236,6 +251,7 @@ pub fn run_commands(
     ensures tracks { λ r. ⌜ r .tracks ≡ runAll clock (take m (now (reached .entry))) (staged tracks [] []) .tracks ⌝ }
     ensures count { λ r. ⌜ r .count ≡ n + length (runAll clock (take m (now (reached .entry))) (staged tracks [] []) .records) ⌝ }
     ensures bytes { λ r. ⌜ now (stage .exit) ≡ writeAt (now (stage .entry)) (n * 16) (logBytes (runAll clock (take m (now (reached .entry))) (staged tracks [] []) .records)) ⌝ }
+    ensures word { λ r. ⌜ r .word ≡ playingWord present (r .tracks) ⌝ }
 {
     let mut next = tracks;
     let mut count = n;
@@ -250,9 +266,11 @@ pub fn run_commands(
         count = r.count;
         j += 1;
     }
+    let word = playing(next, present);
     Commanded {
         tracks: next,
         count,
+        word,
     }
 }
 

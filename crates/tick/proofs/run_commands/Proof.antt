@@ -82,14 +82,18 @@ loop-again c =
     let l = c .before .before .before .before .before .before .before .before .loop in
     turn _ _ _ _ _ _ (l .next) (l .stage) (l .count) (l .j) (l .inv) (inside i) _ (read i) _ _ (c .before .before .before .obey .ensures)
 
+playing-requires : tie.Need-playing-requires Inv-loop μ-loop
+playing-requires c κs = search needs
+
 same-length : tie.Need-same-length Inv-loop μ-loop
-same-length c = c .before .loop .inv .stage
+same-length c = c .before .before .loop .inv .stage
 
 returns : tie.Need-returns Inv-loop μ-loop
 returns c =
-    let l = c .before .loop in
-    let e = many (c .before .before .before .before) in
-    turns-end _ _ _ _ _ _ (l .next) (l .stage) (l .count) (l .j) (l .inv) (omega (arith, c .loop-test .left))
+    let l = c .before .before .loop in
+    let e = many (c .before .before .before .before .before) in
+    let d = turns-end _ _ _ _ _ _ (l .next) (l .stage) (l .count) (l .j) (l .inv) (omega (arith, c .before .loop-test .left)) in
+    (d .0, (d .1 .0, (d .1 .1, c .playing .ensures)))
 
 pub run-commands-spec : {M : Type 1} → statement M
 run-commands-spec =
@@ -109,5 +113,6 @@ run-commands-spec =
     add-j
     loop-less
     loop-again
+    playing-requires
     same-length
     returns)

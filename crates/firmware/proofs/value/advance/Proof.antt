@@ -1,13 +1,12 @@
 use Rattle.firmware.proofs.value.advance.Statement.{statement}
 use Rattle.firmware.proofs.value.advance.Tie as tie
 use Rattle.firmware.proofs.Numbering.{gives-as}
+use Rattle.motion.proofs.Advancing.{advance-told}
 use borrow.Author.Needs.{needs}
-use mathlib.Core.Path.{refl}
-use Rattle.motion.specs.declared.call.Call.the-variants as call
 use mir.Facts.{toZ-ofZ}
 
-advance-requires : tie.Need-advance-requires
-advance-requires c κs = search needs
+proceed-requires : tie.Need-proceed-requires
+proceed-requires c κs = (search needs, search needs)
 
 ending-of-requires : tie.Need-ending-of-requires
 ending-of-requires c κs = search needs
@@ -17,8 +16,8 @@ same-length c = search needs
 
 returns : tie.Need-returns
 returns c =
-    gives-as call.Advance _ _ (toZ-ofZ (c .before .before .before .before .before .before .before .fits .count)) refl (c .ending-of .ensures)
-    (c .before .before .before .before .advance .ensures)
+    let s = c .before .before .before .before .before .before .before .before .before .before .before .before .before .before .before in
+    gives-as (c .before .ending-of .ensures) (advance-told (s .args .t1) _ (toZ-ofZ (s .fits .count)) (c .before .before .before .before .before .proceed .ensures))
 
 pub advance-spec : {M : Type 1} → statement M
-advance-spec = tie.close (tie.spec advance-requires ending-of-requires same-length returns)
+advance-spec = tie.close (tie.spec proceed-requires ending-of-requires same-length returns)

@@ -1,23 +1,20 @@
 use Rattle.firmware.proofs.value.play.Statement.{statement}
 use Rattle.firmware.proofs.value.play.Tie as tie
-use Rattle.firmware.proofs.Numbering.{gives-number, play-numbered}
+use Rattle.firmware.proofs.Numbering.{gives-number}
+use Rattle.motion.proofs.Machine.{play-gives}
 use borrow.Author.Needs.{needs}
 use mir.Facts.{toZ-ofZ}
 
-play-requires : tie.Need-play-requires
-play-requires c κs = search needs
-
-numbered-requires : tie.Need-numbered-requires
-numbered-requires c κs = search needs
+mode-call-requires : tie.Need-mode-call-requires
+mode-call-requires c κs = search needs
 
 same-length : tie.Need-same-length
 same-length c = search needs
 
 returns : tie.Need-returns
 returns c =
-    let s = c .before .before .before in
-    gives-number _ _ _ (toZ-ofZ (s .before .before .before .fits .track)) (c .numbered .ensures .0) play-numbered (s .play .result .answer)
-    (c .numbered .ensures .1) (s .play .ensures)
+    let m = c .before .before .mode-call in
+    gives-number (m .result .number) (play-gives _ _ _ _ (toZ-ofZ (c .before .before .before .before .before .fits .track)) (m .ensures))
 
 pub play-spec : {M : Type 1} → statement M
-play-spec = tie.close (tie.spec play-requires numbered-requires same-length returns)
+play-spec = tie.close (tie.spec mode-call-requires same-length returns)
