@@ -107,7 +107,7 @@ pub fn run<'a>(
             let l = t.arrival();
             let here = i as u32 * Points::STRIDE + l.0;
             let d = Points::info_at(keys, infos, n, here);
-            let r = step_member(t, i as u8, clock + 1, d, &mut stage, staged);
+            let r = step_member(t, l, i as u8, clock + 1, d, &mut stage, staged);
             let after = r.track;
             tracks[i] = after;
             staged = r.count;

@@ -15,7 +15,7 @@ ghost use Prim.Native.Nat.{_+_, _*_, _%_, _≤_, _<_};
 ghost use lib.ListN.{length, take, drop};
 ghost use Rattle.track.specs.Rule.{Valid, clockEnd};
 ghost use Rattle.track.specs.Grid.{gridOf};
-ghost use Rattle.track.specs.Walk.{step};
+ghost use Rattle.track.specs.Walk.{arrival, step};
 ghost use Rattle.record.specs.Bytes.{writeAt};
 ghost use Rattle.record.specs.Record.{logBytes};
 ghost use Rattle.tick.specs.Tick.{waits, pointRecords, changeRecords, stepRecords, commandRecords, commanded, commandOf, obeyed, obeyedRecords, runAll, staged, reachedBy, stirring, playBit, playingWord, InfoRule, TracksRule};
@@ -130,16 +130,24 @@ fn stage_change(
     n + 1
 }
 
-// One step of a playing track, with the info that it finds where it arrives: its point's record, then its mode-change record.
-pub fn step_member(t: Track, track: u8, clock: u32, d: u32, stage: &mut [u8], n: usize) -> Staged
+// One step of a playing track to l, with the info that it finds there: its point's record, then its mode-change record.
+pub fn step_member(
+    t: Track,
+    l: Coordinate,
+    track: u8,
+    clock: u32,
+    d: u32,
+    stage: &mut [u8],
+    n: usize,
+) -> Staged
     requires { ⌜ Valid t ⌝ }
     requires { ⌜ t .passes .0 ≤ clockEnd ⌝ }
     requires { ⌜ InfoRule d ⌝ }
     requires { ⌜ n * 16 + 32 ≤ length (now stage) ⌝ }
+    requires { ⌜ l .0 ≡ arrival t ⌝ }
     ensures staged { λ r. ⌜ r ≡ record { track = step t (waits d); count = n + length (stepRecords clock track t d) } ⌝ }
     ensures bytes { λ r. ⌜ now (stage .exit) ≡ writeAt (now (stage .entry)) (n * 16) (logBytes (stepRecords clock track t d)) ⌝ }
 {
-    let l = t.arrival();
     let before = t.passes;
     let noted = stage_point(stage, n, clock, track, l, before, d);
     let passes = t.passes_at(l);

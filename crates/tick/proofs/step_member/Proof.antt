@@ -9,9 +9,6 @@ use borrow.Author.Needs.{needs}
 use mathlib.Core.Path.{sym, subst}
 use native.Mathlib.Omega.{arith}
 
-arrival-requires : tie.Need-arrival-requires
-arrival-requires c κs = search needs
-
 stage-point-requires : tie.Need-stage-point-requires
 stage-point-requires c κs = search needs
 
@@ -23,14 +20,14 @@ step-requires c κs = search needs
 
 stage-change-requires : tie.Need-stage-change-requires
 stage-change-requires c κs =
-    let s = c .before .before .before .before .before .before .before .before .before .before .args in
-    let p = c .before .before .before .before .before .before .before .before .before .before .pre in
+    let s = c .before .before .before .before .before .before .before .before .before .args in
+    let p = c .before .before .before .before .before .before .before .before .before .pre in
     let q = c .before .before .before .before .before .stage-point .ensures in
-    let m = point-most (s .clock) (s .track) (c .before .before .before .before .before .before .before .before .arrival .result .0) (s .t .passes .0) (s .d) in
-    let l = written-long (s .stage .now) (s .n) _ q (omega (arith, p .1 .1 .1)) in
+    let m = point-most (s .clock) (s .track) (s .l .0) (s .t .passes .0) (s .d) in
+    let l = written-long (s .stage .now) (s .n) _ q (omega (arith, p .1 .1 .1 .0)) in
     let v = step-valid (s .t) (p .0) _ .mode in
     let e = c .before .step .ensures in
-    (omega (arith, l, q .0, p .1 .1 .1, m), (p .0 .mode, subst (λ (u : Track). u .mode ≤ 3) (sym e) v))
+    (omega (arith, l, q .0, p .1 .1 .1 .0, m), (p .0 .mode, subst (λ (u : Track). u .mode ≤ 3) (sym e) v))
 
 same-length : tie.Need-same-length
 same-length c = search needs
@@ -38,14 +35,15 @@ same-length c = search needs
 returns : tie.Need-returns
 unfolding waits
 returns c =
-    step-out (c .before .before .before .before .before .before .before .before .before .before .before .before .before .args .clock) (c .before .before .before .before .before .before .before .before .before .before .before .before .before .args .track) (c .before .before .before .before .before .before .before .before .before .before .before .before .before .args .t) (c .before .before .before .before .before .before .before .before .before .before .before .before .before .args .d) (c .before .before .before .before .before .before .before .before .before .before .before .before .before .args .stage .now) (c .before .before .before .before .before .before .before .before .before .before .before .before .before .args .n) (omega (arith, c .before .before .before .before .before .before .before .before .before .before .before .before .before .pre .1 .1 .1))
-    (c .before .before .before .before .before .before .before .before .before .before .before .arrival .ensures) (c .before .before .before .before .before .passes-at .ensures) (c .before .before .before .before .step .ensures) (c .before .before .before .before .before .before .before .before .stage-point .ensures) (c .before .before .stage-change .ensures)
+    let s = c .before .before .before .before .before .before .before .before .before .before .before .before .args in
+    let p = c .before .before .before .before .before .before .before .before .before .before .before .before .pre in
+    step-out (s .clock) (s .track) (s .t) (s .d) (s .stage .now) (s .n) (omega (arith, p .1 .1 .1 .0)) (p .1 .1 .1 .1)
+    (c .before .before .before .before .before .passes-at .ensures) (c .before .before .before .before .step .ensures) (c .before .before .before .before .before .before .before .before .stage-point .ensures) (c .before .before .stage-change .ensures)
 
 pub step-member-spec : {M : Type 1} → statement M
 step-member-spec =
     tie.close
     (tie.spec
-    arrival-requires
     stage-point-requires
     passes-at-requires
     step-requires

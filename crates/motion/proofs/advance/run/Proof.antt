@@ -176,7 +176,7 @@ step-member-requires c κs =
         a .passes,
         (
           subst InfoRule (sym (c .before .info-at .ensures)) (found-rule _ _ _ _ (whole-points (boardAt (board (start t)) (t .before .ticks .tracks) (t .before .ticks .clock) (t .before .ticks .held)) (t .before .ticks .inv .0 .whole)) _),
-          omega (arith, v .few-records, v .stage-long, c .before .before .before .before .before .before .loop-test .taken),
+          (omega (arith, v .few-records, v .stage-long, c .before .before .before .before .before .before .loop-test .taken), c .before .before .before .arrival .ensures),
         ),
       ),
     )
