@@ -1,7 +1,7 @@
 -- What a mode call comes to on each way out, and that what follows its ruling is what the call gives.
 use Prim.Native.Nat.{ℕ, _+_, _*_, _≤_, _<_}
 use mathlib.Core.Path.{_≡_, refl, sym, _∙_, ap, subst}
-use mathlib.Core.List.{List, [], _∷_, append-nil}
+use mathlib.Core.List.{List, [], _∷_}
 use native.Mathlib.Nat.{add-zero}
 use native.Mathlib.Omega.{arith}
 use lib.IntN.{ℤ}
@@ -17,7 +17,7 @@ use Rattle.board.specs.declared.Board.{Board}
 use Rattle.record.specs.declared.Record.{Record}
 use Rattle.board.specs.declared.setup.Outcome.{Outcome}
 use Rattle.tick.proofs.Staging.{write-none}
-use Rattle.record.specs.Record.{recordWidth, recordBytes, logBytes}
+use Rattle.record.specs.Record.{recordWidth, logBytes}
 use Rattle.board.specs.Rule.{noTrack, trackAt}
 use Rattle.board.specs.Calls.{refused, accepted, boardWith}
 use Rattle.tick.specs.Tick.{recordOf, changeRecords}
@@ -89,23 +89,24 @@ module _ (b : Board) (n i mode : ℕ) where
             cond-yes _ _ (le-leb (b .held + length (callRecords b i mode)) (capacity n) (omega (arith, ap length (silent z))))
             (ap (λ (rs : List Record). record { answer = Accepted; board = changed; records = rs }) (sym (silent z)))
 
-    pub follows-noted : {after : List ℕ} {event : ℕ} → event ≡ cell → (cell ≡ 0 → ⊥) → b .held < capacity n →
-        r ≡ accepted (boardWith b (set (b .tracks) i (entered (trackAt (b .tracks) i) mode)) (b .present) (b .points) (b .held + 1)) →
-        after ≡ writeAt before (b .held * recordWidth) (recordBytes (noteOf event)) → Follows m r before after
-    unfolding changesTo logBytes
-    follows-noted {after} ee z h q l =
+    -- the change's records are written behind the held ones
+    pub follows-noted : {held : ℕ} {after : List ℕ} → (cell ≡ 0 → ⊥) → b .held < capacity n →
+        r ≡ accepted (boardWith b (set (b .tracks) i (entered (trackAt (b .tracks) i) mode)) (b .present) (b .points) held) →
+        held ≡ b .held + length (callRecords b i mode) → after ≡ writeAt before (b .held * recordWidth) (logBytes (callRecords b i mode)) →
+        Follows m r before after
+    unfolding changesTo
+    follows-noted {held} {after} z h q c l =
         subst (λ (m : Ruling). Follows m r before after) (made ∙ e)
         (record {
           answer-is = ap (λ (o : Outcome). o .answer) q;
-          board-is = ap (λ (o : Outcome). o .board) q;
-          log-is = l ∙ ap (λ (v : ℕ). writeAt before (b .held * recordWidth) (recordBytes (noteOf v))) ee
-              ∙ ap (writeAt before (b .held * recordWidth)) (sym (append-nil (recordBytes (noteOf cell))));
+          board-is = ap (λ (o : Outcome). o .board) q
+              ∙ ap (λ (k : ℕ). boardWith changed (changed .tracks) (changed .present) (changed .points) k) c;
+          log-is = l;
         })
       where
-        made : record { answer = Accepted; board = changed; records = noteOf cell ∷ [] } ≡ changesTo b n i mode
+        made : record { answer = Accepted; board = changed; records = callRecords b i mode } ≡ changesTo b n i mode
         made =
-            cond-yes _ _ (le-leb (b .held + length (callRecords b i mode)) (capacity n) (omega (arith, ap length (noted z))))
-            (ap (λ (rs : List Record). record { answer = Accepted; board = changed; records = rs }) (sym (noted z)))
+            cond-yes _ _ (le-leb (b .held + length (callRecords b i mode)) (capacity n) (omega (arith, ap length (noted z)))) refl
 
     pub follows-full : (cell ≡ 0 → ⊥) → capacity n ≤ b .held → r ≡ refused 8 b → Follows m r before before
     unfolding changesTo

@@ -4,7 +4,7 @@ use board::rules::found;
 use board::rules::unbroken;
 use board::setup::Outcome;
 use record::Record;
-use record::put_record;
+use tick::stage_change;
 use track::Ticks;
 use track::Track;
 use track::grid::Decision;
@@ -74,8 +74,7 @@ pub fn judge<'a>(
         return declined(Answer::MODE, first, held);
     };
     let after = t.entered(new);
-    let event = t.action(mode, new);
-    if event == 0 {
+    if t.action(mode, new) == 0 {
         return Ruled {
             answer: Answer::Accepted,
             at,
@@ -88,21 +87,13 @@ pub fn judge<'a>(
     }
     let position = t.position;
     let passes = t.passes;
-    let r = Record {
-        clock,
-        track: i as u8,
-        kind: Record::CHANGE,
-        event,
-        detail: mode * 16 + new,
-        position,
-        passes,
-    };
-    put_record(r, log, held as usize * Record::WIDTH);
+    let slot = held as usize;
+    let count = stage_change(log, slot, clock.0, i as u8, t, new, position, passes);
     Ruled {
         answer: Answer::Accepted,
         at,
         track: after,
-        held: held + 1,
+        held: count as u64,
     }
 }
 

@@ -96,7 +96,7 @@ fn stage_point(
 }
 
 // The record of a change of mode, if its action cell is not 0.
-fn stage_change(
+pub fn stage_change(
     stage: &mut [u8],
     n: usize,
     clock: u32,

@@ -185,23 +185,11 @@ returns-6 c =
       omega (arith, ap (λ (r : Ruled). r .at) (c .declined5 .ensures)),
     )
 
-cast-t37 : tie.Need-cast-t37
-cast-t37 c = record { fits = (let l = small (c .before .before .before .before .before .before .before .before .before .before .before .before) in omega arith) }
+cast-stage-change : tie.Need-cast-stage-change
+cast-stage-change c = record { fits = (let l = small (c .before .before .before .before .before .before .before .before .before .before .before .before .before) in omega arith) }
 
-mul-t38 : tie.Need-mul-t38
-mul-t38 c = let v = valid (c .before .before .before .before .before .before .before .before .before .before .before .before) in record { fits = omega arith }
-
-add-t39 : tie.Need-add-t39
-add-t39 c = let v = valid (c .before .before .before .before .before .before .before .before .before .before .before .before) in let m = low (c .before .before .before .before .before .before .before) in record { fits = omega arith }
-
-mul-put-record : tie.Need-mul-put-record
-mul-put-record c = omega (arith, c .before .before .before .if4 .left, c .before .before .before .before .before .before .before .before .before .before .before .before .before .before .before .before .before .before .before .before .before .before .before .good)
-
-put-record-requires : tie.Need-put-record-requires
-put-record-requires c κs = omega (arith, c .before .before .before .if4 .left)
-
-add-t44 : tie.Need-add-t44
-add-t44 c = omega (arith, c .before .before .before .before .before .before .if4 .left, c .before .before .before .before .before .before .before .before .before .before .before .before .before .before .before .before .before .before .before .before .before .before .before .before .before .before .good)
+stage-change-requires : tie.Need-stage-change-requires
+stage-change-requires c κs = (omega (arith, c .before .before .before .if4 .left), (valid (c .before .before .before .before .before .before .before .before .before .before .before .before .before), low (c .before .before .before .before .before .before .before .before)))
 
 same-length : tie.Need-same-length
 same-length c = search needs
@@ -210,9 +198,10 @@ returns-7 : tie.Need-returns-7
 returns-7 c =
     let b = board (c .before .before .before .before .before .before .before .before .before .before .before .before .before .before .before .before .before .before .before .before .before .before .before .before .before .before) in
     let a = c .before .before .before .before .before .before .before .before .action .ensures in
-    let l = small (c .before .before .before .before .before .before .before .before .before .before .before .before .before .before .before .before) in (
-      follows-noted b _ _ _ (ruling (c .before .before .before .before .before .before .before .before .before .before .before)) a (λ z. c .before .before .before .before .before .before .before .if3 .left (a ∙ z)) (c .before .before .before .before .before .before .if4 .left)
-          (changed-with b _ _ (c .before .before .before .before .before .before .before .before .before .entered .ensures)) (c .before .before .put-record .ensures),
+    let l = small (c .before .before .before .before .before .before .before .before .before .before .before .before .before .before .before .before) in
+    let w = c .before .before .stage-change .ensures in (
+      follows-noted b _ _ _ (ruling (c .before .before .before .before .before .before .before .before .before .before .before)) (λ z. c .before .before .before .before .before .before .before .if3 .left (a ∙ z)) (c .before .before .before .before .before .before .if4 .left)
+          (changed-with b _ _ (c .before .before .before .before .before .before .before .before .before .entered .ensures)) (w .0) (w .1),
       omega arith,
     )
 
@@ -244,11 +233,7 @@ judge-spec =
     returns-5
     declined-requires-5
     returns-6
-    cast-t37
-    mul-t38
-    add-t39
-    mul-put-record
-    put-record-requires
-    add-t44
+    cast-stage-change
+    stage-change-requires
     same-length
     returns-7)
