@@ -204,10 +204,8 @@ impl Board {
         let Natural::In(i) = found(self.present, track) else {
             return refused(Board::TRACK, self);
         };
-        let at = i as usize;
-        let owner = tracks[at];
-        let mode = owner.mode;
-        if !settled(mode) {
+        let owner = tracks[i as usize];
+        if !settled(owner.mode) {
             return refused(Answer::MODE, self);
         }
         let Drawn::Good(p) = draw(

@@ -90,8 +90,8 @@ returns-2 c =
     cond-yes _ _ (whole (c .before .before .before .before))
     (natural-out _ _ _ (told (foundIn (c .before .before .before .before .before .before .before .before .before .before .before .before .before .args .t1 .present)) (c .before .before .before .before .before .before .before .before .before .before .before .before .before .fits .track) (c .before .before .before .found .ensures) (c .before .enum-told .given .1)) (c .refused2 .ensures))
 
-cast-at : tie.Need-cast-at
-cast-at c = search needs
+cast-owner : tie.Need-cast-owner
+cast-owner c = search needs
 
 mul-owner : tie.Need-mul-owner
 mul-owner c = let l = small (c .before) in search needs
@@ -174,7 +174,7 @@ set-point-spec =
     enum-told
     refused-requires-2
     returns-2
-    cast-at
+    cast-owner
     mul-owner
     array-copy-out-owner
     settled-requires
