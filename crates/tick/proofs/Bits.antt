@@ -7,8 +7,7 @@ use native.Mathlib.Nat.{pow-suc, add-zero, zero-add}
 use lib.ListN.{length}
 use lib.Arith.{lt-one}
 use lib.Count.{ones, ones-step, trailingZeros}
-use Rattle.tick.specs.Word.{keep, membersFrom, members}
-use Rattle.tick.specs.Quiet.{Each}
+use Rattle.tick.specs.Word.{membersFrom, members}
 use Rattle.board.proofs.Guards.{bit-is}
 
 halved : (k w : ℕ) → w < 2 ^ suc k → w / 2 < 2 ^ k
@@ -102,7 +101,7 @@ lowest w h p =
       fits = omega arith;
     }
 
--- ---- how many members there are, and how small they are
+-- ---- how many members there are
 
 count-at : (k t w d : ℕ) → w % 2 ≡ d → length (membersFrom k (suc t) (w / 2)) ≡ ones (w / 2) → length (membersFrom (suc k) t w) ≡ ones w
 unfolding membersFrom
@@ -117,16 +116,3 @@ count-from (suc k) t w h = count-at k t w (w % 2) refl (count-from k (suc t) (w 
 -- as many as the word has ones
 pub members-count : (w : ℕ) → w < 65536 → length (members w) ≡ ones w
 members-count w h = count-from 16 0 w h
-
-below-from : (k t w n : ℕ) → t + k ≤ n → Each (λ i. i < n) (membersFrom k t w)
-unfolding membersFrom Each
-below-from zero t w n h = tt
-below-from (suc k) t w n h = go (w % 2) (below-from k (suc t) (w / 2) n (omega arith))
-  where
-    go : (d : ℕ) → Each (λ i. i < n) (membersFrom k (suc t) (w / 2)) → Each (λ i. i < n) (keep d t (membersFrom k (suc t) (w / 2)))
-    go zero rest = rest
-    go (suc d) rest = (omega arith, rest)
-
--- each is the number of a bit
-pub members-below : (w : ℕ) → Each (λ i. i < 16) (members w)
-members-below w = below-from 16 0 w 16 (omega arith)

@@ -154,11 +154,6 @@ run-more clock ds s =
     let l = length-append (s .records) (recordsRun clock ds (s .tracks)) in
     omega arith
 
--- one command
-pub command-more : (clock d : ℕ) (s : Stage) → length (s .records) ≤ length (runCommand clock d s .records)
-unfolding runAll
-command-more clock d s = run-more clock (d ∷ []) s
-
 -- by at most one for each command
 pub run-adds : (clock : ℕ) (ds : List ℕ) (s : Stage) → length (runAll clock ds s .records) ≤ length (s .records) + length ds
 run-adds clock ds s =

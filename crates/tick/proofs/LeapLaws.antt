@@ -103,11 +103,6 @@ module _ (k present : ℕ) (ts : List Track) (i : ℕ) where
   unfolding leap
   leap-tracks-max = leap-tracks-at (λ (t : Track). t .max ≡ trackAt ts i .max) k present ts i refl refl
 
-  -- modes stay
-  pub leap-tracks-mode : trackAt (leapTracks k present ts) i .mode ≡ trackAt ts i .mode
-  unfolding leap
-  leap-tracks-mode = leap-tracks-at (λ (t : Track). t .mode ≡ trackAt ts i .mode) k present ts i refl refl
-
   -- a valid track stays valid
   pub leap-tracks-valid : Valid (trackAt ts i) → Valid (trackAt (leapTracks k present ts) i)
   leap-tracks-valid v = leap-tracks-at Valid k present ts i v (leap-valid (trackAt ts i) v k)

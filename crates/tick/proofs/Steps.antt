@@ -86,12 +86,7 @@ module _ (keys infos : List ℕ) (clock : ℕ) where
       ∙ (λ j. staged (f .tracks) (append-assoc rs os (f .records) j) (append-assoc ds ps (f .reached) j)) in
       from rs ds ∙ sym (ap (λ (s : Stage). staged (s .tracks) (rs ++ s .records) (ds ++ s .reached)) (from [] []))
 
-  -- a step only adds records
-  pub step-more : (i : ℕ) (s : Stage) → length (s .records) ≤ length (stepMember keys infos clock i s .records)
-  unfolding stepMember
-  step-more i s = let l = length-append (s .records) (writtenBy i (s .tracks)) in omega arith
-
-  -- and so do all steps
+  -- steps only add records
   pub steps-more : (is : List ℕ) (s : Stage) → length (s .records) ≤ length (stepAll keys infos clock is s .records)
   steps-more is s =
       let e = ap (λ (x : Stage). length (x .records)) (steps-apart is (s .tracks) (s .records) (s .reached)) in

@@ -1,5 +1,5 @@
 -- Quiet ticks are a leap, and the tick after the longest leap writes a record or stops a track.
-use Prim.Native.Nat.{ℕ, zero, suc, _+_, _/_, _%_, _≤_, _<_}
+use Prim.Native.Nat.{ℕ, zero, suc, _+_, _/_, _%_, _<_}
 use mathlib.Core.Path.{_≡_, refl, sym, ap, subst, _∙_}
 use mathlib.Core.Logic.{_⊎_, inl, inr, ⊎-elim}
 use mathlib.Core.Bool.{Bool, true, false, _||_, true≢false}
@@ -9,10 +9,10 @@ use lib.ListN.{length, set, length-append}
 use lib.Seq.{getD-at, set-at, append-snoc}
 use borrow.Author.Tests.{ne-eqb}
 use Rattle.track.specs.declared.Track.{Track}
-use Rattle.track.specs.Rule.{STOPPED, PLAYING, Valid}
+use Rattle.track.specs.Rule.{PLAYING, Valid}
 use Rattle.track.specs.Walk.{arrival, passesAt, stops, visited, step}
 use Rattle.track.specs.Leap.{leap}
-use Rattle.track.proofs.Leaps.{leap-zero, leap-suc, leap-add, leap-valid}
+use Rattle.track.proofs.Leaps.{leap-zero, leap-suc, leap-valid}
 use Rattle.record.specs.declared.Record.{Record}
 use Rattle.points.specs.Points.{key}
 use Rattle.board.specs.Rule.{noTrack, trackAt}
@@ -22,7 +22,7 @@ use Rattle.tick.specs.Quiet.{Each, Some, Telling, reaches, loud, Calm, F
 use Rattle.points.proofs.Table.{info-none}
 use Rattle.tick.proofs.Commands.{run-more}
 use Rattle.tick.proofs.Steps.{steps-more}
-use Rattle.tick.proofs.Players.{EachPlaying, SomePlaying, players, bit-plays, members-playing, longer, each-implies, each-both, each-playing, each-member, some-playing, some-member}
+use Rattle.tick.proofs.Players.{EachPlaying, SomePlaying, players, bit-plays, members-playing, longer, each-implies, each-both, each-playing, some-playing, some-member}
 use Rattle.tick.proofs.LeapLaws.{leap-tracks-long, leap-tracks-word, leap-tracks-add, able-valid, each-leapt, some-leapt}
 
 -- ---- one track
@@ -192,11 +192,6 @@ module _ (ks ds : List ℕ) (clock : ℕ) where
 
 -- ---- the laws that an advance uses
 
--- a step that stops a track leaves it STOPPED
-pub stops-mode : (t : Track) (wait : Bool) → stops t ≡ true → step t wait .mode ≡ STOPPED
-unfolding step
-stops-mode t wait s = rw s
-
 module _ (ks ds : List ℕ) (present : ℕ) (ts : List Track) (l : length ts ≡ 16) (able : Leapable ts (members (playingWord present ts))) where
   abbrev word : ℕ
   word = playingWord present ts
@@ -213,15 +208,6 @@ module _ (ks ds : List ℕ) (present : ℕ) (ts : List Track) (l : length ts ≡
       tick-list ks ds clock present ts l
       (each-both (λ n t. Valid t) (λ n t. loud ks n t ≡ false) 0 present ts (able-valid present ts l able)
       (each-playing (λ n t. loud ks n t ≡ false) present ts l q))
-
-  -- of c quiet ticks b are left after a of them
-  pub quiet-later : (a b c : ℕ) → a + b ≤ c → Each (λ i. Calm ks c i (trackAt ts i)) (members word)
-      → Each (λ i. Calm ks b i (trackAt (leapTracks a present ts) i)) (members (playingWord present (leapTracks a present ts)))
-  quiet-later a b c h q =
-      each-member (Calm ks b) present (leapTracks a present ts) (leap-tracks-long a present ts ∙ l)
-      (each-leapt (Calm ks b) a 0 present ts
-      (each-implies (λ n t. Valid t × Calm ks c n t) (λ n t. Calm ks b n (leap t a))
-      (λ n t p j m. ap (loud ks n) (leap-add t (p .0) a j) ∙ p .1 (a + j) (omega arith)) 0 present ts (calm-playing c q)))
 
   -- each of r quiet ticks is one step more of the leap
   pub stretch-ticks : (r : ℕ) → Each (λ i. Calm ks r i (trackAt ts i)) (members word) → (clock j : ℕ) → j < r

@@ -192,10 +192,6 @@ module _ (t : Track) (v : Valid t) where
       )
 
   -- `running` is short of the stopping step, and just short of it unless it is the clock's end
-  pub running-small : running t ≤ clockEnd
-  unfolding running
-  running-small = cond-cases (λ (k : ℕ). k ≤ clockEnd) (t .repeat) (λ _. omega arith) (λ _. omega arith)
-
   pub running-before : t .repeat ≡ false → running t < stopStep t
   unfolding running
   running-before r = simp r (omega (arith, stop-later t v))

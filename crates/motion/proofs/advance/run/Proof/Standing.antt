@@ -124,9 +124,6 @@ pub kept-back : (c : tie.Joined4 Inv-loop μ-loop Inv-ticks μ-ticks) → capaci
 kept-back c h =
     ⊎-elim (λ w. w .2 ∙ w .1 .ensures ∙ leapt-is (leap-at c)) (λ w. absurd (omega (arith, w .0 .left))) (c .if4 .came)
 
-abbrev pub begun : tie.At-loop Inv-loop μ-loop Inv-ticks μ-ticks → tie.Joined4 Inv-loop μ-loop Inv-ticks μ-ticks
-begun c = c .before .before
-
 -- the next member of the word
 pub member : (c : tie.In-loop Inv-loop μ-loop Inv-ticks μ-ticks) → Lowest (c .before .loop .rest)
 member c = turning-member _ _ _ _ _ _ _ _ _ _ _ _ _ (c .before .loop .inv) (c .loop-test .taken)
