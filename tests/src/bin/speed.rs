@@ -10,6 +10,9 @@ use std::hint::black_box;
 use std::time::Instant;
 
 const WHOLE: i64 = 1_000_000_000;
+/// How often library and peer take turns, and the times of each in one.
+const TURNS: u32 = 200;
+const TIMES: u32 = 30;
 
 fn set_up<B: Board>(calls: &[Call]) -> B {
     let mut board = B::fresh();
@@ -81,6 +84,14 @@ impl Case {
     fn time<B: Board + Clone>(&self, times: u32) -> f64 {
         least(&set_up::<B>(&self.set_up), &self.calls, self.bytes, self.rounds, times)
     }
+
+    /// Library and peer in turns, so that a change of the machine's speed meets both.
+    fn times(&self) -> (f64, f64) {
+        let turn = |(library, peer): (f64, f64), _| {
+            (library.min(self.time::<Library>(TIMES)), peer.min(self.time::<Peer>(TIMES)))
+        };
+        (0..TURNS).fold((f64::MAX, f64::MAX), turn)
+    }
 }
 
 fn cases() -> Vec<Case> {
@@ -140,7 +151,7 @@ fn main() {
     println!("| Case | library, µs | peer, µs | ratio |");
     println!("|---|---|---|---|");
     for case in cases() {
-        let (library, peer) = (case.time::<Library>(60), case.time::<Peer>(60));
+        let (library, peer) = case.times();
         println!("| {} | {:.2} | {:.2} | {:.2} |", case.name, library / 1e3, peer / 1e3, library / peer);
     }
     let case = &cases()[0];
