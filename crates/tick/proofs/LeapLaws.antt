@@ -13,7 +13,7 @@ use Rattle.track.specs.declared.Track.{Track}
 use Rattle.track.specs.declared.Ticks.{Ticks}
 use Rattle.track.specs.Rule.{clockEnd, Valid, Sound}
 use Rattle.track.specs.Leap.{leap}
-use Rattle.track.proofs.Leaps.{leap-zero, leap-add, leap-valid, leap-passes}
+use Rattle.track.proofs.Leaps.{leap-zero, leap-add}
 use Rattle.board.specs.declared.Board.{Board}
 use Rattle.points.specs.Points.{keysOf, infosOf, firstFrom, pointOf}
 use Rattle.board.specs.Rule.{noTrack, trackAt, isPresent, Unbroken}
@@ -83,40 +83,6 @@ leap-tracks-word k present (t ∷ ts) =
     ap₂ (λ (a b : ℕ). a + b * 2)
     (leapt-cases (λ (m : ℕ) (x : Track). m ≡ playBit (present % 2) t) k (present % 2) t (λ e. sym e) (λ m e. sym e))
     (leap-tracks-word k (present / 2) ts)
-
--- what holds of a track and of the track leapt holds of the track in its place
-pub leap-tracks-at : (P : Track → Type 0) (k present : ℕ) (ts : List Track) (i : ℕ) → P (trackAt ts i) → P (leap (trackAt ts i) k)
-    → P (trackAt (leapTracks k present ts) i)
-unfolding leapTracks
-leap-tracks-at P k present [] i a b = a
-leap-tracks-at P k present (t ∷ ts) zero a b =
-    leapt-cases (λ (m : ℕ) (x : Track). P x) k (present % 2) t (λ e. a) (λ m e. b)
-leap-tracks-at P k present (t ∷ ts) (suc i) a b = leap-tracks-at P k (present / 2) ts i a b
-
-module _ (k present : ℕ) (ts : List Track) (i : ℕ) where
-  -- bounds stay
-  pub leap-tracks-min : trackAt (leapTracks k present ts) i .min ≡ trackAt ts i .min
-  unfolding leap
-  leap-tracks-min = leap-tracks-at (λ (t : Track). t .min ≡ trackAt ts i .min) k present ts i refl refl
-
-  pub leap-tracks-max : trackAt (leapTracks k present ts) i .max ≡ trackAt ts i .max
-  unfolding leap
-  leap-tracks-max = leap-tracks-at (λ (t : Track). t .max ≡ trackAt ts i .max) k present ts i refl refl
-
-  -- a valid track stays valid
-  pub leap-tracks-valid : Valid (trackAt ts i) → Valid (trackAt (leapTracks k present ts) i)
-  leap-tracks-valid v = leap-tracks-at Valid k present ts i v (leap-valid (trackAt ts i) v k)
-
-  -- passes grow by at most one a tick
-  pub leap-tracks-passes : Valid (trackAt ts i) → trackAt (leapTracks k present ts) i .passes .0 ≤ trackAt ts i .passes .0 + k
-  leap-tracks-passes v =
-      leap-tracks-at (λ (t : Track). t .passes .0 ≤ trackAt ts i .passes .0 + k) k present ts i (omega arith) (leap-passes (trackAt ts i) v k)
-
-  -- a track that is sound stays so under the clock after the leap
-  pub leap-tracks-sound : (clock : Ticks) → Sound (trackAt ts i) clock → Sound (trackAt (leapTracks k present ts) i) (record { 0 = clock .0 + k })
-  leap-tracks-sound clock s =
-      let p = leap-tracks-passes (s .valid) in
-      record { valid = leap-tracks-valid (s .valid); passes = omega (arith, s .passes) }
 
 -- ---- leaps add up
 

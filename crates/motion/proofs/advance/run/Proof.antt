@@ -1,17 +1,19 @@
 use Prim.Native.Nat.{ℕ, _+_, _*_}
-use Rattle.motion.proofs.advance.run.Proof.Standing.{Inv-loop, μ-loop, Inv-ticks, μ-ticks, board, shape, start, whole, able, turn, quiets, fewer, leapt, ahead, whole′, short, leap-at, entry, member, stepping, tick, done, few, full}
-use Rattle.motion.proofs.Advancing.{going-start, going-ends, going-done, going-tick, going-leap, boardAt, whole-points, leap-is}
-use Rattle.tick.proofs.LeapLaws.{leap-tracks-word, unbroken-able, unbroken-telling}
+use Rattle.motion.proofs.advance.run.Proof.Standing.{Inv-loop, μ-loop, Inv-ticks, μ-ticks, leapt-all, board, shape, shaped, start, whole, able, turn, fewer, leapt, ahead, whole′, short, longest, leap-at, entry, member, stepping, tick, done, few, full}
+use Rattle.motion.proofs.Cost.{leap-less, walk-less}
+use Rattle.motion.proofs.Advancing.{Going, going-start, going-ends, going-done, going-tick, boardAt, whole-points}
+use Rattle.tick.proofs.LeapLaws.{unbroken-able, unbroken-telling}
 use Rattle.tick.proofs.Turning.{turning-start, turning-able, turning-step, turning-over, turning-rule}
 use Rattle.tick.proofs.Staging.{length-log}
 use Rattle.tick.proofs.Steps.{found-rule, tick-long}
 use Rattle.record.proofs.Words.{length-write}
 use Rattle.motion.proofs.advance.run.Statement.{statement}
+use Rattle.motion.specs.declared.advance.Advanced.the-variants.{Done}
 use Rattle.motion.proofs.advance.run.Tie as tie
 use Rattle.record.specs.Bytes.{writeAt}
 use Rattle.points.specs.Points.{key, keysOf, infosOf, infoAt}
 use Rattle.record.specs.Record.{recordWidth, logBytes}
-use Rattle.tick.specs.Tick.{InfoRule, playingWord}
+use Rattle.tick.specs.Tick.{InfoRule}
 use Rattle.tick.specs.declared.Staged.{Staged}
 use Rattle.track.proofs.Arrivals.{arrival-inside}
 use borrow.Author.Needs.{needs}
@@ -67,23 +69,17 @@ add-taken c =
 
 ticks-less : tie.Need-ticks-less Inv-loop μ-loop Inv-ticks μ-ticks
 ticks-less c =
-    let t = c .before .before .before .before .before in
-    omega (arith, c .before .before .before .smaller .ensures, t .ticks-test .taken, c .before .before .before .before .if1 .left, whole t .clock)
+    let j = c .before .before in
+    let k = turn j .before .ticks in
+    let l = leapt-all c in
+    let e = j .before .smaller .ensures in
+    leap-less _ _ _ (k .inv .0) (l .0) (turn j .ticks-test .taken) (omega (arith, j .before .before .if1 .left, whole (turn j) .clock)) (k .look) refl (sym (l .1) ∙ k .inv .1) (omega arith)
 
 ticks-again : tie.Need-ticks-again Inv-loop μ-loop Inv-ticks μ-ticks
 ticks-again c =
-    let j = c .before .before in
-    let k = turn j .before .ticks in
-    let q = quiets j in
-    let e = j .before .smaller .ensures in
-    let s = c .before .if3 .taken in
-    let l = c .leapt .ensures in (
-      going-leap _ _ _ _ _ _ _ _ _ (k .inv .0) _ (q .0) _ (k .inv .1) (able (turn j)) (q .2) (omega (arith, q .1)) (omega arith) (omega arith) l (whole (turn j) .clock),
-      k .inv .1 ∙ sym (leap-tracks-word (j .before .smaller .result) _ (k .tracks))
-          ∙ ap (playingWord (start (turn j) .args .present)) (sym (l ∙ leap-is (j .before .smaller .result) _ _ (k .tracks) (k .inv .1) (k .inv .0 .tracks-long))),
-      k .inv .2,
-      k .inv .3,
-    )
+    let l = leapt-all c in
+    let k = turn (c .before .before) .before .ticks in
+    (l .0, l .1, k .inv .2, k .inv .3)
 
 sub-room : tie.Need-sub-room Inv-loop μ-loop Inv-ticks μ-ticks
 sub-room c = omega (arith, c .before .before .before .before .before .ticks .inv .0 .fits)
@@ -268,13 +264,14 @@ add-taken-3 c =
     let n = short (c .before .before .before .before .before .before .before .before .before .before .before .before) in
     omega (arith, c .before .before .before .before .before .before .before .before .before .before .before .before .before .before .smaller .ensures, c .before .before .before .before .before .before .before .before .before .before .before .before .before .before .before .before .ticks-test .taken, c .before .before .before .before .before .before .before .before .before .before .before .before .before .before .before .before .before .before .before .before .before .before .fits .count .fits)
 
-ticks-less-2 : tie.Need-ticks-less-2 Inv-loop μ-loop Inv-ticks μ-ticks
-ticks-less-2 c =
-    let n = short (c .before .before .before .before .before .before .before .before .before .before .before .before) in
-    omega (arith, c .before .before .before .before .before .before .before .before .before .before .before .before .before .before .smaller .ensures, c .before .before .before .before .before .before .before .before .before .before .before .before .before .before .before .before .ticks-test .taken)
-
-ticks-again-2 : tie.Need-ticks-again-2 Inv-loop μ-loop Inv-ticks μ-ticks
-ticks-again-2 c =
+-- the tick is taken: where the loop stands after it
+walked : (c : tie.After-slice-known2 Inv-loop μ-loop Inv-ticks μ-ticks) →
+    let d = c .before .before .before .before .before .before .before in
+    let j = c .before .before .before .before .before .before .before .before .before .before .before .before .before in
+    let k = turn j .before .ticks in
+    Going (board (start (turn j))) (start (turn j) .args .count) (start (turn j) .args .log .now) (c .before .before .commit .last .0) (d .if6 .tracks) (k .clock + j .if2 .calm + 1) (k .held + d .if6 .total) (k .taken + j .if2 .calm + 1)
+    (Done (record { 0 = k .taken + j .if2 .calm + 1 }))
+walked c =
     let j = c .before .before .before .before .before .before .before .before .before .before .before .before .before in
     let k = turn j .before .ticks in
     let d = done (c .before .before .before .before .before .before .before) in
@@ -282,16 +279,29 @@ ticks-again-2 c =
     let n = short (c .before .before .before .before .before .before .before .before .before .before .before .before) in
     let e = j .before .smaller .ensures in
     let rs = tick (c .before .before .before .before .before .before .before) .records in
-    let bytes = c .before .before .commit .ensures ∙ ap (writeAt (k .log) (k .held * recordWidth)) (d .bytes) in (
-      going-tick _ _ _ _ _ _ _ _ _ g (omega (arith, turn j .ticks-test .taken)) (omega (arith, whole (turn j) .clock)) (d .tracks) (d .count) (c .before .before .before .before .before .before .if7 .left)
-          bytes
-          (ap length bytes ∙ length-write (k .log) (logBytes rs) (k .held * recordWidth)
-          (omega (arith, length-log rs, d .count, g .fits, g .long, c .before .before .before .before .before .before .if7 .left)))
-          (ap length (d .tracks) ∙ tick-long _ _ _ _ _ ∙ g .tracks-long),
-      d .word-is,
-      d .stage-long,
-      c .before .before .before .before .before .before .before .before .before .loop .inv .steps .reached-long,
-    )
+    let bytes = c .before .before .commit .ensures ∙ ap (writeAt (k .log) (k .held * recordWidth)) (d .bytes) in
+    going-tick _ _ _ _ _ _ _ _ _ g (omega (arith, turn j .ticks-test .taken)) (omega (arith, whole (turn j) .clock)) (d .tracks) (d .count) (c .before .before .before .before .before .before .if7 .left)
+    bytes
+    (ap length bytes ∙ length-write (k .log) (logBytes rs) (k .held * recordWidth)
+    (omega (arith, length-log rs, d .count, g .fits, g .long, c .before .before .before .before .before .before .if7 .left)))
+    (ap length (d .tracks) ∙ tick-long _ _ _ _ _ ∙ g .tracks-long)
+
+ticks-less-2 : tie.Need-ticks-less-2 Inv-loop μ-loop Inv-ticks μ-ticks
+ticks-less-2 c =
+    let j = c .before .before .before .before .before .before .before .before .before .before .before .before .before in
+    let k = turn j .before .ticks in
+    let s = shaped (turn j) in
+    let d = done (c .before .before .before .before .before .before .before) in
+    let n = short (c .before .before .before .before .before .before .before .before .before .before .before .before) in
+    let e = j .before .smaller .ensures in
+    walk-less _ _ _ (k .inv .0) (walked c) (turn j .ticks-test .taken) (omega (arith, j .before .before .if1 .left, whole (turn j) .clock)) (j .if2 .calm)
+    (unbroken-able _ s (whole (turn j))) (unbroken-telling _ s (whole (turn j))) (k .look) refl (d .tracks) (d .count) (omega arith)
+    (longest (c .before .before .before .before .before .before .before .before .before .before .before .before))
+
+ticks-again-2 : tie.Need-ticks-again-2 Inv-loop μ-loop Inv-ticks μ-ticks
+ticks-again-2 c =
+    let d = done (c .before .before .before .before .before .before .before) in
+    (walked c, d .word-is, d .stage-long, c .before .before .before .before .before .before .before .before .before .loop .inv .steps .reached-long)
 
 same-length : tie.Need-same-length Inv-loop μ-loop Inv-ticks μ-ticks
 same-length c = c .before .ticks .inv .0 .long

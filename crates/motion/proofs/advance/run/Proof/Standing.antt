@@ -5,22 +5,25 @@ use Rattle.motion.specs.Does.{world, Ended}
 use Rattle.motion.specs.declared.advance.Advanced.the-variants.{Done, LogFull}
 use Rattle.tick.proofs.Bits.{Lowest}
 use Rattle.board.proofs.Broken.{Shaped, unbroken-of}
-use Rattle.tick.proofs.LeapLaws.{unbroken-able}
+use Rattle.tick.proofs.LeapLaws.{unbroken-able, leap-tracks-word}
+use Rattle.motion.specs.Cost.{turnsLeft}
 use Rattle.tick.proofs.Turning.{Turning, turning-member, turning-leapt, turning-stirred, turning-still, Ticked}
 use Rattle.board.proofs.Passing.{length-mapped}
 use Rattle.tick.proofs.Steps.{tick-few}
 use Rattle.motion.proofs.advance.run.Tie as tie
 use Rattle.points.specs.Points.{keysOf, infosOf}
-use Rattle.tick.specs.Quiet.{Each, Calm, Able, Leapable, leapTracks, leapInto}
+use Rattle.tick.specs.Quiet.{Each, Calm, Fewest, Able, Leapable, leapTracks, leapInto}
 use Rattle.board.specs.declared.Board.{Board}
 use Rattle.board.specs.Rule.{Unbroken, trackAt}
 use Rattle.tick.specs.Tick.{Stage, playingWord}
 use Rattle.mode.specs.Ruling.{boardOf, capacity}
 use Rattle.tick.specs.Word.{members}
 use Rattle.track.specs.declared.Track.{Track}
+use Rattle.track.specs.Rule.{clockEnd}
 use borrow.Author.Needs.{needs}
 use lib.ListN.{length}
 use mathlib.Core.List.{List, []}
+use mathlib.Core.Bool.{true, true≢false}
 use mathlib.Core.Logic.{⊎-elim}
 use mathlib.Core.Path.{_≡_, sym, _∙_, ap, subst}
 use native.Mathlib.Omega.{arith}
@@ -41,7 +44,8 @@ Inv-ticks present keys infos n from kept count log₀ slots tracks₀ back₀ wo
     × (length stage ≡ 768) × (length reached ≡ 16)
 
 abbrev pub μ-ticks : tie.MeasureT-ticks
-μ-ticks present keys infos n from kept count log₀ slots tracks₀ back₀ word₀ clock₀ held₀ taken₀ look₀ stage₀ reached₀ answer₀ log tracks back word clock held taken look stage reached answer = count - taken
+μ-ticks present keys infos n from kept count log₀ slots tracks₀ back₀ word₀ clock₀ held₀ taken₀ look₀ stage₀ reached₀ answer₀ log tracks back word clock held taken look stage reached answer =
+    turnsLeft look (count - taken) (world (boardAt (boardOf tracks₀ present keys infos n from kept) tracks clock held) log)
 
 -- the board at the start, and its shape
 abbrev pub board : tie.Start Inv-loop μ-loop Inv-ticks μ-ticks → Board
@@ -55,20 +59,20 @@ shape s = record { tracks = search (length-mapped, needs); keys = s .pre .0 .0; 
 abbrev pub start : tie.In-ticks Inv-loop μ-loop Inv-ticks μ-ticks → tie.Start Inv-loop μ-loop Inv-ticks μ-ticks
 start c = c .before .before .before .before .before .before
 
--- the board as it stands keeps the rules
-pub whole : (c : tie.In-ticks Inv-loop μ-loop Inv-ticks μ-ticks) → Unbroken (boardAt (board (start c)) (c .before .ticks .tracks) (c .before .ticks .clock) (c .before .ticks .held))
-whole c =
-    let s = shape (start c) in
-    let g = c .before .ticks .inv .0 in
-    unbroken-of _ (record { tracks = g .tracks-long; keys = s .keys; infos = s .infos }) (g .whole)
+-- the board as it stands, its shape and its rules
+abbrev pub stands : tie.In-ticks Inv-loop μ-loop Inv-ticks μ-ticks → Board
+stands c = let k = c .before .ticks in boardAt (board (start c)) (k .tracks) (k .clock) (k .held)
+
+pub shaped : (c : tie.In-ticks Inv-loop μ-loop Inv-ticks μ-ticks) → Shaped (stands c)
+shaped c = let s = shape (start c) in record { tracks = c .before .ticks .inv .0 .tracks-long; keys = s .keys; infos = s .infos }
+
+pub whole : (c : tie.In-ticks Inv-loop μ-loop Inv-ticks μ-ticks) → Unbroken (stands c)
+whole c = unbroken-of _ (shaped c) (c .before .ticks .inv .0 .whole)
 
 -- the playing tracks can be leapt
 pub able : (c : tie.In-ticks Inv-loop μ-loop Inv-ticks μ-ticks) → Leapable (c .before .ticks .tracks) (members (c .before .ticks .word))
 able c =
-    let s = shape (start c) in
-    let g = c .before .ticks .inv .0 in
-    subst (λ (w : ℕ). Leapable (c .before .ticks .tracks) (members w)) (sym (c .before .ticks .inv .1))
-    (unbroken-able _ (record { tracks = g .tracks-long; keys = s .keys; infos = s .infos }) (whole c))
+    subst (λ (w : ℕ). Leapable (c .before .ticks .tracks) (members w)) (sym (c .before .ticks .inv .1)) (unbroken-able _ (shaped c) (whole c))
 
 abbrev pub turn : tie.Joined2 Inv-loop μ-loop Inv-ticks μ-ticks → tie.In-ticks Inv-loop μ-loop Inv-ticks μ-ticks
 turn c = c .before .before .before
@@ -107,9 +111,44 @@ whole′ c =
     let s = shape (start (turn c)) in
     unbroken-of _ (record { tracks = ahead c .tracks-long; keys = s .keys; infos = s .infos }) (ahead c .whole)
 
+-- where all that can be taken was quiet: where the loop stands after the leap
+pub leapt-all : (c : tie.After-leapt Inv-loop μ-loop Inv-ticks μ-ticks) →
+    let j = c .before .before in
+    let k = turn j .before .ticks in
+    let most = j .before .smaller .result in
+    Going (board (start (turn j))) (start (turn j) .args .count) (start (turn j) .args .log .now) (k .log) (c .leapt .result) (k .clock + most) (k .held) (k .taken + most)
+    (Done (record { 0 = k .taken + most })) × (k .word ≡ playingWord (start (turn j) .args .present) (c .leapt .result))
+leapt-all c =
+    let j = c .before .before in
+    let k = turn j .before .ticks in
+    let q = quiets j in
+    let e = j .before .smaller .ensures in
+    let s = c .before .if3 .taken in
+    let l = c .leapt .ensures in (
+      going-leap _ _ _ _ _ _ _ _ _ (k .inv .0) _ (q .0) _ (k .inv .1) (able (turn j)) (q .2) (omega (arith, q .1)) (omega arith) (omega arith) l (whole (turn j) .clock),
+      k .inv .1 ∙ sym (leap-tracks-word (j .before .smaller .result) _ (k .tracks))
+          ∙ ap (playingWord (start (turn j) .args .present)) (sym (l ∙ leap-is (j .before .smaller .result) _ _ (k .tracks) (k .inv .1) (k .inv .0 .tracks-long))),
+    )
+
 -- a tick is left to walk
 pub short : (c : tie.Else3 Inv-loop μ-loop Inv-ticks μ-ticks) → c .before .if2 .calm < c .before .before .smaller .result
 short c = let f = fewer (c .before) in let n = c .if3 .left in omega arith
+
+-- and the turn that looked for quiet ticks has leapt all of them
+pub longest : (c : tie.Else3 Inv-loop μ-loop Inv-ticks μ-ticks) →
+    let j = c .before in
+    let k = turn j .before .ticks in
+    k .look ≡ true → Fewest (keysOf (board (start (turn j)) .points)) (k .tracks) (members (playingWord (start (turn j) .args .present) (k .tracks))) clockEnd (j .if2 .calm)
+longest c e =
+    let j = c .before in
+    let k = turn j .before .ticks in
+    let n = short c in
+    ⊎-elim
+    (λ w.
+    let s : j .if2 .calm ≡ w .1 .result .0 = omega (arith, w .2 .ensures, w .3) in
+    subst (λ (i : ℕ). Fewest (keysOf (board (start (turn j)) .points)) (k .tracks) (members i) clockEnd (j .if2 .calm)) (k .inv .1)
+    (subst (λ (r : ℕ). Fewest (keysOf (board (start (turn j)) .points)) (k .tracks) (members (k .word)) clockEnd r) (sym s) (w .1 .ensures)))
+    (λ w. absurd (true≢false (sym e ∙ w .0 .left))) (j .if2 .came)
 
 -- ---- the walk
 
