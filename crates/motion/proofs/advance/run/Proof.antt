@@ -280,7 +280,7 @@ walked c =
     let e = j .before .smaller .ensures in
     let rs = tick (c .before .before .before .before .before .before .before) .records in
     let bytes = c .before .before .commit .ensures ∙ ap (writeAt (k .log) (k .held * recordWidth)) (d .bytes) in
-    going-tick _ _ _ _ _ _ _ _ _ g (omega (arith, turn j .ticks-test .taken)) (omega (arith, whole (turn j) .clock)) (d .tracks) (d .count) (c .before .before .before .before .before .before .if7 .left)
+    going-tick _ _ _ _ _ _ _ _ _ g (omega (arith, turn j .ticks-test .taken)) (omega (arith, whole (turn j) .clock)) (d .tracks) (d .count) (omega (arith, c .before .before .before .before .before .before .if7 .left))
     bytes
     (ap length bytes ∙ length-write (k .log) (logBytes rs) (k .held * recordWidth)
     (omega (arith, length-log rs, d .count, g .fits, g .long, c .before .before .before .before .before .before .if7 .left)))
