@@ -27,7 +27,7 @@ stage-change-requires c κs =
     let l = written-long (s .stage .now) (s .n) _ q (omega (arith, p .1 .1 .1 .0)) in
     let v = step-valid (s .t) (p .0) _ .mode in
     let e = c .before .step .ensures in
-    (omega (arith, l, q .0, p .1 .1 .1 .0, m), (p .0 .mode, subst (λ (u : Track). u .mode ≤ 3) (sym e) v))
+    (omega (arith, l, q .0, p .1 .1 .1 .0, m), (p .0 .mode, omega (arith, p .0 .mode, subst (λ (u : Track). u .mode ≤ 3) (sym e) v)))
 
 same-length : tie.Need-same-length
 same-length c = search needs
