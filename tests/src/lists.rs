@@ -127,4 +127,13 @@ impl Tally {
         sum(&mut self.refusals, &other.refusals);
         sum(&mut self.records, &other.records);
     }
+
+    /// Every answer's kind, every kind of record and every refusal that a list can meet came: 5 where boards are full;
+    /// 7 never, since a list has one log.
+    pub fn assert_whole(&self, full: bool) {
+        let refusals = (1..10).filter(|&number| number != 7 && (number != 5 || full));
+        assert!(self.kinds.iter().all(|&times| times > 0), "an answer never came: {self:?}");
+        assert!(refusals.into_iter().all(|number: usize| self.refusals[number] > 0), "a refusal never came: {self:?}");
+        assert!(self.records[1..].iter().all(|&times| times > 0), "a kind of record never came: {self:?}");
+    }
 }

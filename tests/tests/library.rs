@@ -145,6 +145,7 @@ fn lists_agree(profile: Profile) {
     }
     println!("{profile:?}: {compared:?}");
     assert!(compared.cut_anew >= compared.lists / 3);
+    compared.tally.assert_whole(profile == Profile::Full);
 }
 
 macro_rules! profiles {

@@ -78,7 +78,9 @@ fn stored_outputs() {
         assert_eq!(printed, out, "{}", script.display());
         within
     });
-    println!("{} of {} stored outputs by single ticks too", singly.count(), all.len());
+    let singly = singly.count();
+    println!("{singly} of {} stored outputs by single ticks too", all.len());
+    assert!(singly > 0);
     let (input, out) = read(&folder("tests").join("malformed.steps"));
     assert!(input == malformed::steps() && out == malformed::printed());
 }
@@ -194,4 +196,5 @@ fn runner_on_made_scripts() {
     assert!([1, 2, 3, 4, 5, 6, 8, 9].iter().all(|&number| seen.refused[number] > 0), "a refusal never came");
     assert_eq!((seen.refused[0], seen.refused[7]), (0, 0), "the runner's log is never short of what is held");
     assert!(seen.short[1] > 0 && seen.short[2] > 0);
+    assert!(seen.singly > 0, "no script was within the single-tick model's reach");
 }

@@ -38,13 +38,12 @@ pub fn proceed<'a>(
     requires { ⌜ (length (now keys) ≡ pointMost) × (length (now infos) ≡ pointMost) ⌝ }
     ensures { λ r. ⌜ Gives (does (call.Advance count) (world (boardOf tracks present (now (keys .entry)) (now (infos .entry)) n (clock .0) held) (now (log .entry)))) (advancedSaid (r .answer)) (boardLeft (boardOf tracks present (now (keys .entry)) (now (infos .entry)) n (clock .0) held) r) (now (log .exit)) ⌝ }
 {
-    let from = clock.0;
     let kept = held as usize;
     if !unbroken(tracks, present, clock, keys, infos, n) {
         return Left {
             answer: Advanced::Refused(Answer::VALUE),
             tracks,
-            clock: from,
+            clock,
             held: kept,
         };
     }
@@ -53,7 +52,7 @@ pub fn proceed<'a>(
         return Left {
             answer: Advanced::Refused(Board::CAPACITY),
             tracks,
-            clock: from,
+            clock,
             held: kept,
         };
     }
@@ -61,11 +60,21 @@ pub fn proceed<'a>(
         return Left {
             answer: Advanced::Refused(Answer::VALUE),
             tracks,
-            clock: from,
+            clock,
             held: kept,
         };
     };
-    run(tracks, present, keys, infos, n, from, kept, ticks, log)
+    run(
+        tracks,
+        present,
+        keys,
+        infos,
+        n,
+        clock,
+        kept,
+        Ticks(ticks),
+        log,
+    )
 }
 
 // Advances by a count of ticks, 0 to 4,294,967,295.
@@ -88,7 +97,7 @@ pub fn advance(b: Board, count: i64, log: &mut [u8]) -> Progress
     let after = left.tracks;
     let mut board = b;
     board.tracks = after;
-    board.clock.0 = left.clock;
+    board.clock.0 = left.clock.0;
     board.held = left.held as u64;
     Progress { answer, board }
 }

@@ -3,6 +3,7 @@
 //   0 L          a fresh board, and a log of L bytes, each 165
 //   30 to 44     a field set by force (poke.rt)
 //   50           the held records, then end,clock,held
+//   51 k p       a record of kind k packed at place p of the log: 0 accepted or the refusal's number, then the log
 //   52 a b       calls a to b of those since code 0 on the board at hand: the number of each, 0 accepted; an
 //                accepted one is undone
 use crate::poke::limited;
@@ -14,6 +15,7 @@ use crate::read::number_of;
 use crate::read::read_row;
 use crate::show::held_records;
 use crate::show::next;
+use crate::show::pack_line;
 use crate::show::refusal;
 use crate::show::reply;
 use crate::show::text;
@@ -141,6 +143,15 @@ fn tries(b: Bench, calls: &[i64], log: &mut [u8], replies: &mut [u64]) -> Bench 
     }
 }
 
+// Code 51 with the numbers of its row.
+fn packs(b: Bench, calls: &[i64], log: &mut [u8]) -> Bench {
+    let i = b.rows;
+    let kind = limited(number_of(calls, i, 1), 255) as u8;
+    let at = limited(number_of(calls, i, 2), 4096) as usize;
+    pack_line(kind, at, log);
+    b
+}
+
 // A row that has been read, but for code 0, with the log cut to its length.
 fn step(b: Bench, code: u32, calls: &[i64], log: &mut [u8], replies: &mut [u64]) -> Bench {
     if code < 30 {
@@ -153,6 +164,9 @@ fn step(b: Bench, code: u32, calls: &[i64], log: &mut [u8], replies: &mut [u64])
         let board = b.board;
         held_records(board, log);
         return b;
+    }
+    if code == 51 {
+        return packs(b, calls, log);
     }
     if code == 52 {
         return tries(b, calls, log, replies);

@@ -4,7 +4,12 @@ use encoding::reply::REPLY_WIDTH;
 use libc::STDOUT_FILENO;
 use record::Record;
 use record::Unpacked;
+use record::pack;
 use record::unpack;
+use track::Coordinate;
+use track::Passes;
+use track::Ticks;
+use track::setup::Answer;
 ghost use Prim.Native.Nat.{_≤_};
 
 // Bytes as they are.
@@ -142,4 +147,37 @@ pub fn held_records(b: Board, log: &[u8]) {
     natural(b.clock.0 as u64);
     next(b.held);
     text(b"\n");
+}
+
+// A byte.
+fn next_byte(b: u8) {
+    next(b as u64);
+}
+
+// The bytes of a log, behind what was printed.
+fn bytes_line(log: &[u8]) {
+    let mut i: usize = 0;
+    while i < log.len() {
+        next_byte(log[i]);
+        i += 1;
+    }
+    text(b"\n");
+}
+
+// Code 51: a record of a kind is packed at a place of the log. The refusal's number, 0 accepted, then the log's bytes.
+pub fn pack_line(kind: u8, at: usize, log: &mut [u8]) {
+    let r = Record {
+        clock: Ticks(16909060),
+        track: 9,
+        kind,
+        event: 10,
+        detail: 11,
+        position: Coordinate(0),
+        passes: Passes(84281096),
+    };
+    match pack(r, log, at) {
+        Answer::Accepted => natural(0),
+        Answer::Refused(n) => natural(n as u64),
+    }
+    bytes_line(log);
 }

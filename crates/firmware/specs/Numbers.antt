@@ -24,12 +24,14 @@ answerOf (suc n) = answer.Refused (suc n)
 abbrev pub outcomeSaid : Answered → Outcome
 outcomeSaid r = record { answer = answerOf (r .number); board = r .board }
 
--- an advance's: its reason, 0 Done, 1 LogFull, 2 ClockEnd, with the ticks taken; any other is a refusal, with its number
+-- an advance's: its reason, 0 Done, 1 LogFull, 2 ClockEnd, with the ticks taken, 3 a refusal, with its number; any other reason says
+-- what no advance answers
 abbrev pub reasonSaid : ℕ → ℕ → Reply
 reasonSaid zero n = done n
 reasonSaid (suc zero) n = logFull n
 reasonSaid (suc (suc zero)) n = clockEnded n
-reasonSaid (suc (suc (suc k))) n = refused n
+reasonSaid (suc (suc (suc zero))) n = refused n
+reasonSaid (suc (suc (suc (suc k)))) n = accepted
 
 abbrev pub endingSaid : Ending → Reply
 endingSaid e = reasonSaid (e .reason) (e .number)

@@ -141,7 +141,7 @@ pub fn advance(mut b: Board, count: i64, log: &mut [u8]) -> Ended
     let after = left.tracks;
     let ending = ending_of(answer);
     b.tracks = after;
-    b.clock.0 = left.clock;
+    b.clock.0 = left.clock.0;
     b.held = left.held as u64;
     Ended { board: b, ending }
 }

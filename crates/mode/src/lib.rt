@@ -88,7 +88,7 @@ pub fn judge<'a>(
     let position = t.position;
     let passes = t.passes;
     let slot = held as usize;
-    let count = stage_change(log, slot, clock.0, i as u8, t, new, position, passes);
+    let count = stage_change(log, slot, clock, i as u8, t, new, position, passes);
     Ruled {
         answer: Answer::Accepted,
         at,

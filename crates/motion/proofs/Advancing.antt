@@ -122,7 +122,7 @@ module _ (b : Board) (log : List ℕ) (ts : List Track) (clock held : ℕ) where
 module _ (b : Board) (count : ℕ) (log₀ log : List ℕ) (ts : List Track) (clock held taken : ℕ) (answer : Advanced)
     (g : Going b count log₀ log ts clock held taken answer) where
   abbrev Out : Advanced → Type 0
-  Out a = Ended b (go count (world b log₀)) (record { answer = a; tracks = ts; clock = clock; held = held }) log
+  Out a = Ended b (go count (world b log₀)) (record { answer = a; tracks = ts; clock = record { 0 = clock }; held = held }) log
 
   stopped : (e : Stop) (a : Advanced) → advancedSaid a ≡ stoppedBy taken (some e) → taken < count →
       halt (world (boardAt b ts clock held) log) ≡ some e → Out a

@@ -255,7 +255,7 @@ pub record Gives (d : Did Reply (World Board)) (reply : Reply) (board : Board) (
 -- the board that ticks left off at
 abbrev pub boardLeft : Board → Left → Board
 boardLeft b r =
-    record { tracks = r .tracks; present = b .present; points = b .points; clock = record { 0 = r .clock }; held = r .held }
+    record { tracks = r .tracks; present = b .present; points = b .points; clock = r .clock; held = r .held }
 
 -- an advance has ended as ticks come to
 pub record Ended (b : Board) (t : Ran Stop (World Board)) (r : Left) (log : List ℕ) : Type 0 where

@@ -36,7 +36,7 @@ pub enum Advanced {
 pub struct Left {
     pub answer: Advanced,
     pub tracks: [Track; Board::TRACKS],
-    pub clock: u32,
+    pub clock: Ticks,
     pub held: usize,
 }
 
@@ -48,33 +48,34 @@ pub fn run<'a>(
     keys: &'a [u32],
     infos: &'a [u32],
     n: usize,
-    from: u32,
+    from: Ticks,
     kept: usize,
-    count: u32,
+    count: Ticks,
     log: &mut [u8],
 ) -> Left
     requires { ⌜ (length (now keys) ≡ pointMost) × (length (now infos) ≡ pointMost) ⌝ }
-    requires { ⌜ unbrokenTest (boardOf given present (now keys) (now infos) n from kept) ≡ true ⌝ }
+    requires { ⌜ unbrokenTest (boardOf given present (now keys) (now infos) n (from .0) kept) ≡ true ⌝ }
     requires { ⌜ kept ≤ capacity (length (now log)) ⌝ }
-    ensures { λ r. ⌜ Ended (boardOf given present (now (keys .entry)) (now (infos .entry)) n from kept) (ticks (w-halt gridstep) (w-step gridstep) count (world (boardOf given present (now (keys .entry)) (now (infos .entry)) n from kept) (now (log .entry)))) r (now (log .exit)) ⌝ }
+    ensures { λ r. ⌜ Ended (boardOf given present (now (keys .entry)) (now (infos .entry)) n (from .0) kept) (ticks (w-halt gridstep) (w-step gridstep) (count .0) (world (boardOf given present (now (keys .entry)) (now (infos .entry)) n (from .0) kept) (now (log .entry)))) r (now (log .exit)) ⌝ }
 {
     let slots = log.len() / Record::WIDTH;
+    let wanted = count.0;
     let mut tracks = given;
     let mut back = given;
     let mut word = playing(given, present);
-    let mut clock = from;
+    let mut clock = from.0;
     let mut held = kept;
     let mut taken: u32 = 0;
     let mut look = false;
     let mut stage = [0u8; 768];
     let mut reached = [0u32; Board::TRACKS];
     let mut answer = Advanced::Done(Ticks(0));
-    'ticks: while taken < count {
+    'ticks: while taken < wanted {
         if clock == Ticks::END {
             answer = Advanced::ClockEnd(Ticks(taken));
             break 'ticks;
         }
-        let most = smaller(count - taken, Ticks::END - clock);
+        let most = smaller(wanted - taken, Ticks::END - clock);
         let mut calm: u32 = 0;
         if look {
             let stretch = quiet(tracks, word, keys, infos, n);
@@ -107,7 +108,7 @@ pub fn run<'a>(
             let l = t.arrival();
             let here = i as u32 * Points::STRIDE + l.0;
             let d = Points::info_at(keys, infos, n, here);
-            let r = step_member(t, l, i as u8, clock + 1, d, &mut stage, staged);
+            let r = step_member(t, l, i as u8, Ticks(clock + 1), d, &mut stage, staged);
             let after = r.track;
             tracks[i] = after;
             staged = r.count;
@@ -123,7 +124,15 @@ pub fn run<'a>(
         }
         let mut total = staged;
         if stirred {
-            let done = run_commands(tracks, present, clock + 1, &reached, m, &mut stage, staged);
+            let done = run_commands(
+                tracks,
+                present,
+                Ticks(clock + 1),
+                &reached,
+                m,
+                &mut stage,
+                staged,
+            );
             total = done.count;
             word = done.word;
             let moved = done.tracks;
@@ -144,7 +153,7 @@ pub fn run<'a>(
     Left {
         answer,
         tracks,
-        clock,
+        clock: Ticks(clock),
         held,
     }
 }

@@ -2,6 +2,7 @@
 use crate::Out;
 use encoding::told::Told;
 use record::Record;
+use track::Ticks;
 ghost use mathlib.Core.Path.{_≡_};
 ghost use Prim.Native.Nat.{_≤_};
 ghost use Rattle.track.specs.declared.Track.{Track};
@@ -18,24 +19,24 @@ pub fn refused_line(line: u64, number: u8) -> Out
     l.number(number as u64, b'\n')
 }
 
-pub fn short_line(line: u64, taken: u32, reason: u8) -> Out
-    ensures { λ r. ⌜ textOf r ≡ shortLine line taken reason ⌝ }
+pub fn short_line(line: u64, taken: Ticks, reason: u8) -> Out
+    ensures { λ r. ⌜ textOf r ≡ shortLine line (taken .0) reason ⌝ }
 {
     let word = [b's', b'h', b'o', b'r', b't', b','];
     let o = Out::new();
     let w = o.push_from(&word, 0);
     let l = w.number(line, b',');
-    let t = l.number(taken as u64, b',');
+    let t = l.number(taken.0 as u64, b',');
     t.number(reason as u64, b'\n')
 }
 
-pub fn end_line(clock: u32, held: u64) -> Out
-    ensures { λ r. ⌜ textOf r ≡ endLine clock held ⌝ }
+pub fn end_line(clock: Ticks, held: u64) -> Out
+    ensures { λ r. ⌜ textOf r ≡ endLine (clock .0) held ⌝ }
 {
     let word = [b'e', b'n', b'd', b','];
     let o = Out::new();
     let w = o.push_from(&word, 0);
-    let c = w.number(clock as u64, b',');
+    let c = w.number(clock.0 as u64, b',');
     c.number(held, b'\n')
 }
 
@@ -66,8 +67,8 @@ pub fn note(line: u64, told: Told) -> Out
 {
     match told {
         Told::Refused(n) => refused_line(line, n),
-        Told::LogFull(n) => short_line(line, n.0, 1),
-        Told::ClockEnd(n) => short_line(line, n.0, 2),
+        Told::LogFull(n) => short_line(line, n, 1),
+        Told::ClockEnd(n) => short_line(line, n, 2),
         Told::Accepted => Out::new(),
         Told::Done(n) => Out::new(),
         Told::Clock(c, held) => Out::new(),

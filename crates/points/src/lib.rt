@@ -265,6 +265,13 @@ impl Points {
 }
 
 impl Point {
+    // An info is event + WAIT * wait + COMMAND * command + TARGET * target; it is never 0, so that 0 says that there is no point.
+    pub const WAIT: u32 = 65536;
+
+    pub const COMMAND: u32 = 131072;
+
+    pub const TARGET: u32 = 1048576;
+
     // The key of a point.
     pub fn key(self) -> u32
         requires { ⌜ (self .track < 16) × (self .position .0 ≤ 2000000) ⌝ }
@@ -278,9 +285,9 @@ impl Point {
         requires { ⌜ (self .command ≤ 4) × (self .target < 16) ⌝ }
         ensures { λ r. ⌜ r ≡ infoOf self ⌝ }
     {
-        let rest = self.command as u32 * 131072 + self.target as u32 * 1048576;
+        let rest = self.command as u32 * Point::COMMAND + self.target as u32 * Point::TARGET;
         if self.wait {
-            self.event as u32 + 65536 + rest
+            self.event as u32 + Point::WAIT + rest
         } else {
             self.event as u32 + rest
         }
@@ -294,10 +301,10 @@ impl Point {
         Point {
             track: (wanted / Points::STRIDE) as u8,
             position: Coordinate(wanted % Points::STRIDE),
-            event: (info % 65536) as u16,
-            wait: info / 65536 % 2 == 1,
-            command: (info / 131072 % 8) as u8,
-            target: (info / 1048576) as u8,
+            event: (info % Point::WAIT) as u16,
+            wait: info / Point::WAIT % 2 == 1,
+            command: (info / Point::COMMAND % 8) as u8,
+            target: (info / Point::TARGET) as u8,
         }
     }
 }

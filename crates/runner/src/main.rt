@@ -110,7 +110,7 @@ fn main() {
     let note = e.note;
     print_line(note, &mut out);
     let board = e.board;
-    let clock = board.clock.0;
+    let clock = board.clock;
     let held = board.held;
     print_records(held, &log, &mut out);
     let end = end_line(clock, held);

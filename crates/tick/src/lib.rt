@@ -1,5 +1,6 @@
 // The parts of a tick. Its records are staged apart from the log, as bytes behind one another.
 use board::Board;
+use points::Point;
 use record::Record;
 use record::put_record;
 use track::Coordinate;
@@ -64,7 +65,7 @@ pub fn playing(tracks: [Track; Board::TRACKS], present: u16) -> u16
 fn stage_point(
     stage: &mut [u8],
     n: usize,
-    clock: u32,
+    clock: Ticks,
     track: u8,
     l: Coordinate,
     passes: Passes,
@@ -72,16 +73,15 @@ fn stage_point(
 ) -> usize
     requires { ⌜ n * 16 + 16 ≤ length (now stage) ⌝ }
     requires { ⌜ InfoRule d ⌝ }
-    ensures count { λ r. ⌜ r ≡ n + length (pointRecords clock track (l .0) (passes .0) d) ⌝ }
-    ensures bytes { λ r. ⌜ now (stage .exit) ≡ writeAt (now (stage .entry)) (n * 16) (logBytes (pointRecords clock track (l .0) (passes .0) d)) ⌝ }
+    ensures count { λ r. ⌜ r ≡ n + length (pointRecords (clock .0) track (l .0) (passes .0) d) ⌝ }
+    ensures bytes { λ r. ⌜ now (stage .exit) ≡ writeAt (now (stage .entry)) (n * 16) (logBytes (pointRecords (clock .0) track (l .0) (passes .0) d)) ⌝ }
 {
     if d == 0 {
         return n;
     }
-    let event = (d % 65536) as u8;
-    let command = (d / 131072 % 8) as u8;
-    let target = (d / 1048576) as u8;
-    let clock = Ticks(clock);
+    let event = (d % Point::WAIT) as u8;
+    let command = (d / Point::COMMAND % 8) as u8;
+    let target = (d / Point::TARGET) as u8;
     let r = Record {
         clock,
         track,
@@ -99,7 +99,7 @@ fn stage_point(
 pub fn stage_change(
     stage: &mut [u8],
     n: usize,
-    clock: u32,
+    clock: Ticks,
     track: u8,
     t: Track,
     new: u8,
@@ -108,15 +108,14 @@ pub fn stage_change(
 ) -> usize
     requires { ⌜ n * 16 + 16 ≤ length (now stage) ⌝ }
     requires { ⌜ (t .mode ≤ 3) × (new ≤ 3) ⌝ }
-    ensures count { λ r. ⌜ r ≡ n + length (changeRecords clock track t new (l .0) (passes .0)) ⌝ }
-    ensures bytes { λ r. ⌜ now (stage .exit) ≡ writeAt (now (stage .entry)) (n * 16) (logBytes (changeRecords clock track t new (l .0) (passes .0))) ⌝ }
+    ensures count { λ r. ⌜ r ≡ n + length (changeRecords (clock .0) track t new (l .0) (passes .0)) ⌝ }
+    ensures bytes { λ r. ⌜ now (stage .exit) ≡ writeAt (now (stage .entry)) (n * 16) (logBytes (changeRecords (clock .0) track t new (l .0) (passes .0))) ⌝ }
 {
     let mode = t.mode;
     let event = t.action(mode, new);
     if event == 0 {
         return n;
     }
-    let clock = Ticks(clock);
     let r = Record {
         clock,
         track,
@@ -135,7 +134,7 @@ pub fn step_member(
     t: Track,
     l: Coordinate,
     track: u8,
-    clock: u32,
+    clock: Ticks,
     d: u32,
     stage: &mut [u8],
     n: usize,
@@ -145,13 +144,13 @@ pub fn step_member(
     requires { ⌜ InfoRule d ⌝ }
     requires { ⌜ n * 16 + 32 ≤ length (now stage) ⌝ }
     requires { ⌜ l .0 ≡ arrival t ⌝ }
-    ensures staged { λ r. ⌜ r ≡ record { track = step t (waits d); count = n + length (stepRecords clock track t d) } ⌝ }
-    ensures bytes { λ r. ⌜ now (stage .exit) ≡ writeAt (now (stage .entry)) (n * 16) (logBytes (stepRecords clock track t d)) ⌝ }
+    ensures staged { λ r. ⌜ r ≡ record { track = step t (waits d); count = n + length (stepRecords (clock .0) track t d) } ⌝ }
+    ensures bytes { λ r. ⌜ now (stage .exit) ≡ writeAt (now (stage .entry)) (n * 16) (logBytes (stepRecords (clock .0) track t d)) ⌝ }
 {
     let before = t.passes;
     let noted = stage_point(stage, n, clock, track, l, before, d);
     let passes = t.passes_at(l);
-    let after = t.step(d / 65536 % 2 == 1);
+    let after = t.step(d / Point::WAIT % 2 == 1);
     let count = stage_change(stage, noted, clock, track, t, after.mode, l, passes);
     Staged {
         track: after,
@@ -173,30 +172,31 @@ pub fn note(reached: &mut [u32], m: usize, d: u32) -> usize
     m + 1
 }
 
-// Whether a tick has commands to run, or another word of tracks that play: a step has been such, or this one is.
+// Whether the tick so far needs more than its steps: a point reached has a command to run, or a track plays no longer, so that the
+// word of playing tracks changes. `stirred` says so of the steps before this one.
 pub fn stirs(stirred: bool, d: u32, mode: u8) -> bool
     ensures { λ r. ⌜ r ≡ (stirred || stirring d mode) ⌝ }
 {
     if stirred {
         return true;
     }
-    if d / 131072 % 8 != 0 {
+    if d / Point::COMMAND % 8 != 0 {
         return true;
     }
     mode != Track::PLAYING
 }
 
 // The command of a point on its target.
-fn command(t: Track, clock: u32, d: u32, stage: &mut [u8], n: usize) -> Staged
+fn command(t: Track, clock: Ticks, d: u32, stage: &mut [u8], n: usize) -> Staged
     requires { ⌜ Valid t ⌝ }
     requires { ⌜ InfoRule d ⌝ }
     requires { ⌜ n * 16 + 16 ≤ length (now stage) ⌝ }
-    ensures staged { λ r. ⌜ r ≡ record { track = commanded t (gridOf (t .mode) (commandOf d)); count = n + length (commandRecords clock d t (gridOf (t .mode) (commandOf d))) } ⌝ }
-    ensures bytes { λ r. ⌜ now (stage .exit) ≡ writeAt (now (stage .entry)) (n * 16) (logBytes (commandRecords clock d t (gridOf (t .mode) (commandOf d)))) ⌝ }
+    ensures staged { λ r. ⌜ r ≡ record { track = commanded t (gridOf (t .mode) (commandOf d)); count = n + length (commandRecords (clock .0) d t (gridOf (t .mode) (commandOf d))) } ⌝ }
+    ensures bytes { λ r. ⌜ now (stage .exit) ≡ writeAt (now (stage .entry)) (n * 16) (logBytes (commandRecords (clock .0) d t (gridOf (t .mode) (commandOf d)))) ⌝ }
 {
     let mode = t.mode;
-    let call = (d / 131072 % 8) as u8;
-    let target = (d / 1048576) as u8;
+    let call = (d / Point::COMMAND % 8) as u8;
+    let target = (d / Point::TARGET) as u8;
     let position = t.position;
     let passes = t.passes;
     match grid(mode, call) {
@@ -209,8 +209,7 @@ fn command(t: Track, clock: u32, d: u32, stage: &mut [u8], n: usize) -> Staged
             }
         }
         Decision::Refused => {
-            let clock = Ticks(clock);
-            let event = (d % 65536) as u8;
+            let event = (d % Point::WAIT) as u8;
             let r = Record {
                 clock,
                 track: target,
@@ -230,14 +229,14 @@ fn command(t: Track, clock: u32, d: u32, stage: &mut [u8], n: usize) -> Staged
 }
 
 // The same, if the point has a command.
-fn obey(t: Track, clock: u32, d: u32, stage: &mut [u8], n: usize) -> Staged
+fn obey(t: Track, clock: Ticks, d: u32, stage: &mut [u8], n: usize) -> Staged
     requires { ⌜ ((commandOf d ≡ 0 → ⊥) → Valid t) ⌝ }
     requires { ⌜ InfoRule d ⌝ }
     requires { ⌜ n * 16 + 16 ≤ length (now stage) ⌝ }
-    ensures staged { λ r. ⌜ r ≡ record { track = obeyed d t; count = n + length (obeyedRecords clock d t) } ⌝ }
-    ensures bytes { λ r. ⌜ now (stage .exit) ≡ writeAt (now (stage .entry)) (n * 16) (logBytes (obeyedRecords clock d t)) ⌝ }
+    ensures staged { λ r. ⌜ r ≡ record { track = obeyed d t; count = n + length (obeyedRecords (clock .0) d t) } ⌝ }
+    ensures bytes { λ r. ⌜ now (stage .exit) ≡ writeAt (now (stage .entry)) (n * 16) (logBytes (obeyedRecords (clock .0) d t)) ⌝ }
 {
-    if d / 131072 % 8 == 0 {
+    if d / Point::COMMAND % 8 == 0 {
         return Staged { track: t, count: n };
     }
     command(t, clock, d, stage, n)
@@ -247,7 +246,7 @@ fn obey(t: Track, clock: u32, d: u32, stage: &mut [u8], n: usize) -> Staged
 pub fn run_commands(
     tracks: [Track; Board::TRACKS],
     present: u16,
-    clock: u32,
+    clock: Ticks,
     reached: &[u32],
     m: usize,
     stage: &mut [u8],
@@ -256,9 +255,9 @@ pub fn run_commands(
     requires { ⌜ m ≤ length (now reached) ⌝ }
     requires { ⌜ TracksRule present tracks (take m (now reached)) ⌝ }
     requires { ⌜ (n + m) * 16 ≤ length (now stage) ⌝ }
-    ensures tracks { λ r. ⌜ r .tracks ≡ runAll clock (take m (now (reached .entry))) (staged tracks [] []) .tracks ⌝ }
-    ensures count { λ r. ⌜ r .count ≡ n + length (runAll clock (take m (now (reached .entry))) (staged tracks [] []) .records) ⌝ }
-    ensures bytes { λ r. ⌜ now (stage .exit) ≡ writeAt (now (stage .entry)) (n * 16) (logBytes (runAll clock (take m (now (reached .entry))) (staged tracks [] []) .records)) ⌝ }
+    ensures tracks { λ r. ⌜ r .tracks ≡ runAll (clock .0) (take m (now (reached .entry))) (staged tracks [] []) .tracks ⌝ }
+    ensures count { λ r. ⌜ r .count ≡ n + length (runAll (clock .0) (take m (now (reached .entry))) (staged tracks [] []) .records) ⌝ }
+    ensures bytes { λ r. ⌜ now (stage .exit) ≡ writeAt (now (stage .entry)) (n * 16) (logBytes (runAll (clock .0) (take m (now (reached .entry))) (staged tracks [] []) .records)) ⌝ }
     ensures word { λ r. ⌜ r .word ≡ playingWord present (r .tracks) ⌝ }
 {
     let mut next = tracks;
@@ -266,7 +265,7 @@ pub fn run_commands(
     let mut j: usize = 0;
     while j < m {
         let d = reached[j];
-        let at = (d / 1048576) as usize;
+        let at = (d / Point::TARGET) as usize;
         let t = next[at];
         let r = obey(t, clock, d, stage, count);
         let after = r.track;

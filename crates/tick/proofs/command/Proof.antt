@@ -31,11 +31,11 @@ enum-told c = search needs
 cast-event : tie.Need-cast-event
 cast-event c = search needs
 
-mul-t24 : tie.Need-mul-t24
-mul-t24 c = search needs
+mul-t23 : tie.Need-mul-t23
+mul-t23 c = search needs
 
-add-t25 : tie.Need-add-t25
-add-t25 c = search needs
+add-t24 : tie.Need-add-t24
+add-t24 c = search needs
 
 mul-put-record : tie.Need-mul-put-record
 mul-put-record c = search needs
@@ -43,8 +43,8 @@ mul-put-record c = search needs
 put-record-requires : tie.Need-put-record-requires
 put-record-requires c κs = search needs
 
-add-t29 : tie.Need-add-t29
-add-t29 c = search needs
+add-t28 : tie.Need-add-t28
+add-t28 c = search needs
 
 same-length : tie.Need-same-length
 same-length c = search needs
@@ -52,7 +52,7 @@ same-length c = search needs
 returns : tie.Need-returns
 returns c =
     let s = c .before .before .before .before .before .before .before .before .before .before .before .before .args in
-    goes-out (s .clock) (s .d) (s .t) (s .stage .now) (s .n) (sym (c .before .before .before .before .before .before .before .before .grid .ensures) ∙ c .before .before .before .before .before .before .new .given .1) (c .entered .ensures) (c .before .before .before .stage-change .ensures)
+    goes-out (s .clock .0) (s .d) (s .t) (s .stage .now) (s .n) (sym (c .before .before .before .before .before .before .before .before .grid .ensures) ∙ c .before .before .before .before .before .before .new .given .1) (c .entered .ensures) (c .before .before .before .stage-change .ensures)
 
 same-length-2 : tie.Need-same-length-2
 same-length-2 c = search needs
@@ -60,7 +60,7 @@ same-length-2 c = search needs
 returns-2 : tie.Need-returns-2
 returns-2 c =
     let s = c .before .before .before .before .before .before .before .before .before .before .args in
-    refused-out (s .clock) (s .d) (s .t) (s .stage .now) (s .n) (sym (c .before .before .before .before .before .before .grid .ensures) ∙ c .before .before .before .before .enum-told .given .1) (c .before .before .put-record .ensures)
+    refused-out (s .clock .0) (s .d) (s .t) (s .stage .now) (s .n) (sym (c .before .before .before .before .before .before .grid .ensures) ∙ c .before .before .before .before .enum-told .given .1) (c .before .before .put-record .ensures)
 
 pub command-spec : {M : Type 1} → statement M
 command-spec =
@@ -74,11 +74,11 @@ command-spec =
     entered-requires
     enum-told
     cast-event
-    mul-t24
-    add-t25
+    mul-t23
+    add-t24
     mul-put-record
     put-record-requires
-    add-t29
+    add-t28
     same-length
     returns
     same-length-2

@@ -11,7 +11,7 @@ use mathlib.Core.Path.{_≡_}
 use native.Mathlib.Omega.{arith}
 
 abbrev Inv-loop : tie.InvT-loop
-Inv-loop present clock reached m stage₀ n next₀ count₀ j₀ stage next count j = Turns present clock (take m reached) next₀ stage₀ n next stage count j
+Inv-loop present clock reached m stage₀ n next₀ count₀ j₀ stage next count j = Turns present (clock .0) (take m reached) next₀ stage₀ n next stage count j
 
 abbrev μ-loop : tie.MeasureT-loop
 μ-loop present clock reached m stage₀ n next₀ count₀ j₀ stage next count j = m - j
@@ -37,7 +37,7 @@ loop-holds : tie.Need-loop-holds Inv-loop μ-loop
 loop-holds c =
     let s = c .before .before .args in
     let p = c .before .before .pre in
-    turns-start (s .present) (s .clock) (take (s .m) (s .reached .now)) (s .tracks) (s .stage .now) (s .n) (p .1 .0) (search (length-mapped, needs))
+    turns-start (s .present) (s .clock .0) (take (s .m) (s .reached .now)) (s .tracks) (s .stage .now) (s .n) (p .1 .0) (search (length-mapped, needs))
     (let e = many (c .before .before) in omega (arith, p .1 .1))
 
 mul-d : tie.Need-mul-d Inv-loop μ-loop

@@ -9,11 +9,11 @@ action-requires c κs = search needs
 returns : tie.Need-returns
 returns c = written-none _ _ (change-none _ _ _ _ _ _ (c .before .action .ensures) (c .if1 .taken))
 
-mul-t14 : tie.Need-mul-t14
-mul-t14 c = search needs
+mul-t13 : tie.Need-mul-t13
+mul-t13 c = search needs
 
-add-t15 : tie.Need-add-t15
-add-t15 c = search needs
+add-t14 : tie.Need-add-t14
+add-t14 c = search needs
 
 mul-put-record : tie.Need-mul-put-record
 mul-put-record c = search needs
@@ -38,8 +38,8 @@ stage-change-spec =
     (tie.spec
     action-requires
     returns
-    mul-t14
-    add-t15
+    mul-t13
+    add-t14
     mul-put-record
     put-record-requires
     add-result

@@ -15,11 +15,11 @@ cast-command c = search needs
 cast-target : tie.Need-cast-target
 cast-target c = search needs
 
-mul-t16 : tie.Need-mul-t16
-mul-t16 c = search needs
+mul-t15 : tie.Need-mul-t15
+mul-t15 c = search needs
 
-add-t17 : tie.Need-add-t17
-add-t17 c = search needs
+add-t16 : tie.Need-add-t16
+add-t16 c = search needs
 
 mul-put-record : tie.Need-mul-put-record
 mul-put-record c = search needs
@@ -44,8 +44,8 @@ stage-point-spec =
     cast-event
     cast-command
     cast-target
-    mul-t16
-    add-t17
+    mul-t15
+    add-t16
     mul-put-record
     put-record-requires
     add-result

@@ -23,7 +23,7 @@ stage-change-requires c κs =
     let s = c .before .before .before .before .before .before .before .before .before .args in
     let p = c .before .before .before .before .before .before .before .before .before .pre in
     let q = c .before .before .before .before .before .stage-point .ensures in
-    let m = point-most (s .clock) (s .track) (s .l .0) (s .t .passes .0) (s .d) in
+    let m = point-most (s .clock .0) (s .track) (s .l .0) (s .t .passes .0) (s .d) in
     let l = written-long (s .stage .now) (s .n) _ q (omega (arith, p .1 .1 .1 .0)) in
     let v = step-valid (s .t) (p .0) _ .mode in
     let e = c .before .step .ensures in
@@ -37,7 +37,7 @@ unfolding waits
 returns c =
     let s = c .before .before .before .before .before .before .before .before .before .before .before .before .args in
     let p = c .before .before .before .before .before .before .before .before .before .before .before .before .pre in
-    step-out (s .clock) (s .track) (s .t) (s .d) (s .stage .now) (s .n) (omega (arith, p .1 .1 .1 .0)) (p .1 .1 .1 .1)
+    step-out (s .clock .0) (s .track) (s .t) (s .d) (s .stage .now) (s .n) (omega (arith, p .1 .1 .1 .0)) (p .1 .1 .1 .1)
     (c .before .before .before .before .before .passes-at .ensures) (c .before .before .before .before .step .ensures) (c .before .before .before .before .before .before .before .before .stage-point .ensures) (c .before .before .stage-change .ensures)
 
 pub step-member-spec : {M : Type 1} → statement M

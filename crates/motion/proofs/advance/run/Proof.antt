@@ -1,24 +1,18 @@
-use Prim.Native.Nat.{ℕ, _+_, _*_}
-use Rattle.motion.proofs.advance.run.Proof.Standing.{Inv-loop, μ-loop, Inv-ticks, μ-ticks, leapt-all, board, shape, shaped, start, whole, able, turn, fewer, leapt, ahead, whole′, short, longest, leap-at, entry, member, stepping, tick, done, few, full}
+use Prim.Native.Nat.{ℕ, _+_}
+use Rattle.motion.proofs.advance.run.Proof.Standing.{Inv-loop, μ-loop, Inv-ticks, μ-ticks, leapt-all, board, bits, shape, shaped, start, whole, able, turn, fewer, leapt, ahead, whole′, short, longest, walked, leap-at, entry, member, stepping, done, few, full}
 use Rattle.motion.proofs.Cost.{leap-less, walk-less}
-use Rattle.motion.proofs.Advancing.{Going, going-start, going-ends, going-done, going-tick, boardAt, whole-points}
+use Rattle.motion.proofs.Advancing.{going-start, going-ends, going-done, boardAt, whole-points}
 use Rattle.tick.proofs.LeapLaws.{unbroken-able, unbroken-telling}
 use Rattle.tick.proofs.Turning.{turning-start, turning-able, turning-step, turning-over, turning-rule}
-use Rattle.tick.proofs.Staging.{length-log}
-use Rattle.tick.proofs.Steps.{found-rule, tick-long}
-use Rattle.record.proofs.Words.{length-write}
+use Rattle.tick.proofs.Steps.{found-rule}
 use Rattle.motion.proofs.advance.run.Statement.{statement}
-use Rattle.motion.specs.declared.advance.Advanced.the-variants.{Done}
 use Rattle.motion.proofs.advance.run.Tie as tie
-use Rattle.record.specs.Bytes.{writeAt}
 use Rattle.points.specs.Points.{key, keysOf, infosOf, infoAt}
-use Rattle.record.specs.Record.{recordWidth, logBytes}
 use Rattle.tick.specs.Tick.{InfoRule}
 use Rattle.tick.specs.declared.Staged.{Staged}
 use Rattle.track.proofs.Arrivals.{arrival-inside}
 use borrow.Author.Needs.{needs}
 use lib.Count.{trailingZeros}
-use lib.ListN.{length}
 use mathlib.Core.Path.{refl, sym, _∙_, ap, subst}
 use native.Mathlib.Omega.{arith}
 mod Standing
@@ -29,7 +23,7 @@ playing-requires c κs = search needs
 ticks-holds : tie.Need-ticks-holds Inv-loop μ-loop Inv-ticks μ-ticks
 ticks-holds c =
     let s = c .before .before .before .before in
-    (going-start (board s) (s .args .count) (s .args .log .now) (s .pre .1 .0) (s .pre .1 .1) (shape s .tracks), c .playing .ensures, refl, refl)
+    (going-start (board s) (s .args .count .0) (s .args .log .now) (s .pre .1 .0) (s .pre .1 .1) (shape s .tracks), c .playing .ensures, refl, refl)
 
 sub-smaller : tie.Need-sub-smaller Inv-loop μ-loop Inv-ticks μ-ticks
 sub-smaller c = search needs
@@ -65,7 +59,7 @@ add-clock c = omega (arith, c .before .before .before .smaller .ensures, whole (
 add-taken : tie.Need-add-taken Inv-loop μ-loop Inv-ticks μ-ticks
 add-taken c =
     let t = c .before .before .before .before .before in
-    omega (arith, c .before .before .before .smaller .ensures, t .ticks-test .taken, start t .fits .count .fits)
+    omega (arith, c .before .before .before .smaller .ensures, t .ticks-test .taken, bits (start t))
 
 ticks-less : tie.Need-ticks-less Inv-loop μ-loop Inv-ticks μ-ticks
 ticks-less c =
@@ -100,7 +94,7 @@ add-taken-2 : tie.Need-add-taken-2 Inv-loop μ-loop Inv-ticks μ-ticks
 add-taken-2 c =
     let j = c .before .before .before in
     let f = fewer j in
-    omega (arith, j .before .smaller .ensures, turn j .ticks-test .taken, start (turn j) .fits .count .fits)
+    omega (arith, j .before .smaller .ensures, turn j .ticks-test .taken, bits (start (turn j)))
 
 loop-holds : tie.Need-loop-holds Inv-loop μ-loop Inv-ticks μ-ticks
 loop-holds c =
@@ -153,8 +147,8 @@ info-at-requires c κs =
 cast-step-member : tie.Need-cast-step-member Inv-loop μ-loop Inv-ticks μ-ticks
 cast-step-member c = record { fits = (let l = member (c .before .before .before .before .before) .inside in omega arith) }
 
-add-step-member : tie.Need-add-step-member Inv-loop μ-loop Inv-ticks μ-ticks
-add-step-member c =
+add-t56 : tie.Need-add-t56 Inv-loop μ-loop Inv-ticks μ-ticks
+add-t56 c =
     let e = c .before .before .before .before .before .before .before .before .before in
     let n = short e in
     omega (arith, c .before .before .before .before .before .before .before .before .before .before .before .smaller .ensures, whole (c .before .before .before .before .before .before .before .before .before .before .before .before .before) .clock)
@@ -217,8 +211,8 @@ loop-again c =
     (ap (λ (x : Staged). x .track) (c .before .before .before .before .before .before .before .step-member .ensures .0)) (ap (λ (x : Staged). x .count) (c .before .before .before .before .before .before .before .step-member .ensures .0)) (c .before .before .before .before .before .before .before .step-member .ensures .1)
     (c .before .before .before .note .ensures .0) (c .before .before .before .note .ensures .1 .0) (c .before .before .before .note .ensures .1 .1) (c .before .stirs .ensures)
 
-add-run-commands : tie.Need-add-run-commands Inv-loop μ-loop Inv-ticks μ-ticks
-add-run-commands c =
+add-t74 : tie.Need-add-t74 Inv-loop μ-loop Inv-ticks μ-ticks
+add-t74 c =
     let n = short (c .before .before .before .before .before) in
     omega (arith, c .before .before .before .before .before .before .before .smaller .ensures, whole (c .before .before .before .before .before .before .before .before .before) .clock)
 
@@ -262,29 +256,7 @@ add-clock-3 c =
 add-taken-3 : tie.Need-add-taken-3 Inv-loop μ-loop Inv-ticks μ-ticks
 add-taken-3 c =
     let n = short (c .before .before .before .before .before .before .before .before .before .before .before .before) in
-    omega (arith, c .before .before .before .before .before .before .before .before .before .before .before .before .before .before .smaller .ensures, c .before .before .before .before .before .before .before .before .before .before .before .before .before .before .before .before .ticks-test .taken, c .before .before .before .before .before .before .before .before .before .before .before .before .before .before .before .before .before .before .before .before .before .before .fits .count .fits)
-
--- the tick is taken: where the loop stands after it
-walked : (c : tie.After-slice-known2 Inv-loop μ-loop Inv-ticks μ-ticks) →
-    let d = c .before .before .before .before .before .before .before in
-    let j = c .before .before .before .before .before .before .before .before .before .before .before .before .before in
-    let k = turn j .before .ticks in
-    Going (board (start (turn j))) (start (turn j) .args .count) (start (turn j) .args .log .now) (c .before .before .commit .last .0) (d .if6 .tracks) (k .clock + j .if2 .calm + 1) (k .held + d .if6 .total) (k .taken + j .if2 .calm + 1)
-    (Done (record { 0 = k .taken + j .if2 .calm + 1 }))
-walked c =
-    let j = c .before .before .before .before .before .before .before .before .before .before .before .before .before in
-    let k = turn j .before .ticks in
-    let d = done (c .before .before .before .before .before .before .before) in
-    let g = ahead j in
-    let n = short (c .before .before .before .before .before .before .before .before .before .before .before .before) in
-    let e = j .before .smaller .ensures in
-    let rs = tick (c .before .before .before .before .before .before .before) .records in
-    let bytes = c .before .before .commit .ensures ∙ ap (writeAt (k .log) (k .held * recordWidth)) (d .bytes) in
-    going-tick _ _ _ _ _ _ _ _ _ g (omega (arith, turn j .ticks-test .taken)) (omega (arith, whole (turn j) .clock)) (d .tracks) (d .count) (omega (arith, c .before .before .before .before .before .before .if7 .left))
-    bytes
-    (ap length bytes ∙ length-write (k .log) (logBytes rs) (k .held * recordWidth)
-    (omega (arith, length-log rs, d .count, g .fits, g .long, c .before .before .before .before .before .before .if7 .left)))
-    (ap length (d .tracks) ∙ tick-long _ _ _ _ _ ∙ g .tracks-long)
+    omega (arith, c .before .before .before .before .before .before .before .before .before .before .before .before .before .before .smaller .ensures, c .before .before .before .before .before .before .before .before .before .before .before .before .before .before .before .before .ticks-test .taken, bits (c .before .before .before .before .before .before .before .before .before .before .before .before .before .before .before .before .before .before .before .before .before .before))
 
 ticks-less-2 : tie.Need-ticks-less-2 Inv-loop μ-loop Inv-ticks μ-ticks
 ticks-less-2 c =
@@ -371,7 +343,7 @@ run-spec =
     add-here
     info-at-requires
     cast-step-member
-    add-step-member
+    add-t56
     slice-aggregate-step-member
     step-member-requires
     mul-tracks
@@ -385,7 +357,7 @@ run-spec =
     sub-left
     loop-less
     loop-again
-    add-run-commands
+    add-t74
     slice-aggregate-run-commands
     slice-aggregate-run-commands-2
     run-commands-requires

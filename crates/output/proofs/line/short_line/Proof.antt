@@ -15,6 +15,9 @@ push-from-requires c κs = search needs
 number-requires : tie.Need-number-requires
 number-requires c κs = search needs
 
+cast-number : tie.Need-cast-number
+cast-number c = search needs
+
 number-requires-2 : tie.Need-number-requires-2
 number-requires-2 c κs = search needs
 
@@ -25,9 +28,9 @@ returns : tie.Need-returns
 returns c =
     let d = c .number3 in
     let e = c .before .number2 in
-    let f = c .before .before .number in
-    let g = c .before .before .before .push-from in
-    let h = c .before .before .before .before .before .new in
+    let f = c .before .before .before .number in
+    let g = c .before .before .before .before .push-from in
+    let h = c .before .before .before .before .before .before .new in
     text-adds (e .result) (d .result) _ _ (text-adds (f .result) (e .result) _ _ (text-adds (g .result) (f .result) _ _ (text-adds (h .result) (g .result) _ _ (h .ensures .0) (g .ensures)) (f .ensures)) (e .ensures)) (d .ensures)
 
 pub short-line-spec : {M : Type 1} → statement M
@@ -38,6 +41,7 @@ short-line-spec =
     slice-aggregate-push-from
     push-from-requires
     number-requires
+    cast-number
     number-requires-2
     number-requires-3
     returns)

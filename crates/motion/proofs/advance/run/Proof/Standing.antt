@@ -1,6 +1,6 @@
 -- Where the tick loop of `run` stands: its invariants, and what is known at its places.
-use Prim.Native.Nat.{ℕ, _+_, _-_, _≤_, _<_}
-use Rattle.motion.proofs.Advancing.{Going, going-full, going-leap, boardAt, stageOf, go, calm-none, leap-is}
+use Prim.Native.Nat.{ℕ, _+_, _-_, _*_, _≤_, _<_}
+use Rattle.motion.proofs.Advancing.{Going, going-full, going-leap, going-tick, boardAt, stageOf, go, calm-none, leap-is}
 use Rattle.motion.specs.Does.{world, Ended}
 use Rattle.motion.specs.declared.advance.Advanced.the-variants.{Done, LogFull}
 use Rattle.tick.proofs.Bits.{Lowest}
@@ -9,7 +9,11 @@ use Rattle.tick.proofs.LeapLaws.{unbroken-able, leap-tracks-word}
 use Rattle.motion.specs.Cost.{turnsLeft}
 use Rattle.tick.proofs.Turning.{Turning, turning-member, turning-leapt, turning-stirred, turning-still, Ticked}
 use Rattle.board.proofs.Passing.{length-mapped}
-use Rattle.tick.proofs.Steps.{tick-few}
+use Rattle.tick.proofs.Steps.{tick-few, tick-long}
+use Rattle.tick.proofs.Staging.{length-log}
+use Rattle.record.proofs.Words.{length-write}
+use Rattle.record.specs.Bytes.{writeAt}
+use Rattle.record.specs.Record.{recordWidth, logBytes}
 use Rattle.motion.proofs.advance.run.Tie as tie
 use Rattle.points.specs.Points.{keysOf, infosOf}
 use Rattle.tick.specs.Quiet.{Each, Calm, Fewest, Able, Leapable, leapTracks, leapInto}
@@ -33,26 +37,30 @@ abbrev pub parts : ℕ → List ℕ → List ℕ → ℕ → Board
 parts present keys infos n = boardOf [] present keys infos n 0 0
 
 abbrev pub Inv-loop : tie.InvT-loop
-Inv-loop present keys infos n from kept count log slots tracks₀ back word clock held taken look stage₀ reached₀ most calm room rest₀ left₀ staged₀ m₀ stirred₀ tracks stage reached rest left staged m stirred = Turning (parts present keys infos n) tracks₀ clock word calm stage reached tracks rest left staged m stirred
+Inv-loop present keys infos n kept log slots wanted tracks₀ back word clock held taken look stage₀ reached₀ most calm room rest₀ left₀ staged₀ m₀ stirred₀ tracks stage reached rest left staged m stirred = Turning (parts present keys infos n) tracks₀ clock word calm stage reached tracks rest left staged m stirred
 
 abbrev pub μ-loop : tie.MeasureT-loop
-μ-loop present keys infos n from kept count log slots tracks₀ back word clock held taken look stage₀ reached₀ most calm room rest₀ left₀ staged₀ m₀ stirred₀ tracks stage reached rest left staged m stirred = left
+μ-loop present keys infos n kept log slots wanted tracks₀ back word clock held taken look stage₀ reached₀ most calm room rest₀ left₀ staged₀ m₀ stirred₀ tracks stage reached rest left staged m stirred = left
 
 abbrev pub Inv-ticks : tie.InvT-ticks
-Inv-ticks present keys infos n from kept count log₀ slots tracks₀ back₀ word₀ clock₀ held₀ taken₀ look₀ stage₀ reached₀ answer₀ log tracks back word clock held taken look stage reached answer =
-    Going (boardOf tracks₀ present keys infos n from kept) count log₀ log tracks clock held taken answer × (word ≡ playingWord present tracks)
+Inv-ticks present keys infos n kept log₀ slots wanted tracks₀ back₀ word₀ clock₀ held₀ taken₀ look₀ stage₀ reached₀ answer₀ log tracks back word clock held taken look stage reached answer =
+    Going (boardOf tracks₀ present keys infos n clock₀ kept) wanted log₀ log tracks clock held taken answer × (word ≡ playingWord present tracks)
     × (length stage ≡ 768) × (length reached ≡ 16)
 
 abbrev pub μ-ticks : tie.MeasureT-ticks
-μ-ticks present keys infos n from kept count log₀ slots tracks₀ back₀ word₀ clock₀ held₀ taken₀ look₀ stage₀ reached₀ answer₀ log tracks back word clock held taken look stage reached answer =
-    turnsLeft look (count - taken) (world (boardAt (boardOf tracks₀ present keys infos n from kept) tracks clock held) log)
+μ-ticks present keys infos n kept log₀ slots wanted tracks₀ back₀ word₀ clock₀ held₀ taken₀ look₀ stage₀ reached₀ answer₀ log tracks back word clock held taken look stage reached answer =
+    turnsLeft look (wanted - taken) (world (boardAt (boardOf tracks₀ present keys infos n clock₀ kept) tracks clock held) log)
 
 -- the board at the start, and its shape
 abbrev pub board : tie.Start Inv-loop μ-loop Inv-ticks μ-ticks → Board
-board s = boardOf (s .args .given) (s .args .present) (s .args .keys .now) (s .args .infos .now) (s .args .n) (s .args .from) (s .args .kept)
+board s = boardOf (s .args .given) (s .args .present) (s .args .keys .now) (s .args .infos .now) (s .args .n) (s .args .from .0) (s .args .kept)
 
 pub shape : (s : tie.Start Inv-loop μ-loop Inv-ticks μ-ticks) → Shaped (board s)
 shape s = record { tracks = search (length-mapped, needs); keys = s .pre .0 .0; infos = s .pre .0 .1 }
+
+-- a count of ticks has 32 bits
+pub bits : (s : tie.Start Inv-loop μ-loop Inv-ticks μ-ticks) → s .args .count .0 < 4294967296
+bits s = search needs
 
 -- ---- a turn begins
 
@@ -96,7 +104,7 @@ leapt-is c = let k = turn c .before .ticks in leap-is (c .if2 .calm) _ _ (k .tra
 
 pub ahead : (c : tie.Joined2 Inv-loop μ-loop Inv-ticks μ-ticks) →
     let k = turn c .before .ticks in
-    Going (board (start (turn c))) (start (turn c) .args .count) (start (turn c) .args .log .now) (k .log) (leapt c) (k .clock + c .if2 .calm) (k .held) (k .taken + c .if2 .calm)
+    Going (board (start (turn c))) (start (turn c) .args .count .0) (start (turn c) .args .log .now) (k .log) (leapt c) (k .clock + c .if2 .calm) (k .held) (k .taken + c .if2 .calm)
     (Done (record { 0 = k .taken + c .if2 .calm }))
 ahead c =
     let k = turn c .before .ticks in
@@ -116,7 +124,7 @@ pub leapt-all : (c : tie.After-leapt Inv-loop μ-loop Inv-ticks μ-ticks) →
     let j = c .before .before in
     let k = turn j .before .ticks in
     let most = j .before .smaller .result in
-    Going (board (start (turn j))) (start (turn j) .args .count) (start (turn j) .args .log .now) (k .log) (c .leapt .result) (k .clock + most) (k .held) (k .taken + most)
+    Going (board (start (turn j))) (start (turn j) .args .count .0) (start (turn j) .args .log .now) (k .log) (c .leapt .result) (k .clock + most) (k .held) (k .taken + most)
     (Done (record { 0 = k .taken + most })) × (k .word ≡ playingWord (start (turn j) .args .present) (c .leapt .result))
 leapt-all c =
     let j = c .before .before in
@@ -202,13 +210,35 @@ few c =
     let b = board (entry k) in
     omega (arith, done c .count, tick-few (keysOf (b .points)) (infosOf (b .points)) (turn (leap-at k) .before .ticks .clock + leap-at k .if2 .calm + 1) (b .present) (leapt (leap-at k)))
 
+-- the tick is taken: where the loop stands after it
+pub walked : (c : tie.After-slice-known2 Inv-loop μ-loop Inv-ticks μ-ticks) →
+    let d = c .before .before .before .before .before .before .before in
+    let j = c .before .before .before .before .before .before .before .before .before .before .before .before .before in
+    let k = turn j .before .ticks in
+    Going (board (start (turn j))) (start (turn j) .args .count .0) (start (turn j) .args .log .now) (c .before .before .commit .last .0) (d .if6 .tracks) (k .clock + j .if2 .calm + 1) (k .held + d .if6 .total) (k .taken + j .if2 .calm + 1)
+    (Done (record { 0 = k .taken + j .if2 .calm + 1 }))
+walked c =
+    let j = c .before .before .before .before .before .before .before .before .before .before .before .before .before in
+    let k = turn j .before .ticks in
+    let d = done (c .before .before .before .before .before .before .before) in
+    let g = ahead j in
+    let n = short (c .before .before .before .before .before .before .before .before .before .before .before .before) in
+    let e = j .before .smaller .ensures in
+    let rs = tick (c .before .before .before .before .before .before .before) .records in
+    let bytes = c .before .before .commit .ensures ∙ ap (writeAt (k .log) (k .held * recordWidth)) (d .bytes) in
+    going-tick _ _ _ _ _ _ _ _ _ g (omega (arith, turn j .ticks-test .taken)) (omega (arith, whole (turn j) .clock)) (d .tracks) (d .count) (omega (arith, c .before .before .before .before .before .before .if7 .left))
+    bytes
+    (ap length bytes ∙ length-write (k .log) (logBytes rs) (k .held * recordWidth)
+    (omega (arith, length-log rs, d .count, g .fits, g .long, c .before .before .before .before .before .before .if7 .left)))
+    (ap length (d .tracks) ∙ tick-long _ _ _ _ _ ∙ g .tracks-long)
+
 -- its records don't fit: the tracks are those that the leap left
 pub full : (c : tie.Joined4 Inv-loop μ-loop Inv-ticks μ-ticks) →
     let k = turn (leap-at c) .before .ticks in
     let room = capacity (length (entry c .args .log .now)) - k .held in
     room < 48 → room < length (tickAt c .records) →
-    Ended (board (entry c)) (go (entry c .args .count) (world (board (entry c)) (entry c .args .log .now)))
-    (record { answer = LogFull (record { 0 = k .taken + leap-at c .if2 .calm }); tracks = c .if4 .back; clock = k .clock + leap-at c .if2 .calm; held = k .held }) (k .log)
+    Ended (board (entry c)) (go (entry c .args .count .0) (world (board (entry c)) (entry c .args .log .now)))
+    (record { answer = LogFull (record { 0 = k .taken + leap-at c .if2 .calm }); tracks = c .if4 .back; clock = record { 0 = k .clock + leap-at c .if2 .calm }; held = k .held }) (k .log)
 full c h r =
     let j = leap-at c in
     let k = turn j .before .ticks in
@@ -216,7 +246,7 @@ full c h r =
     let e = j .before .smaller .ensures in
     subst
     (λ (ts : List Track).
-    Ended (board (entry c)) (go (entry c .args .count) (world (board (entry c)) (entry c .args .log .now)))
-    (record { answer = LogFull (record { 0 = k .taken + j .if2 .calm }); tracks = ts; clock = k .clock + j .if2 .calm; held = k .held }) (k .log))
+    Ended (board (entry c)) (go (entry c .args .count .0) (world (board (entry c)) (entry c .args .log .now)))
+    (record { answer = LogFull (record { 0 = k .taken + j .if2 .calm }); tracks = ts; clock = record { 0 = k .clock + j .if2 .calm }; held = k .held }) (k .log))
     (sym (kept-back c h))
     (going-full _ _ _ _ _ _ _ _ _ (ahead j) (omega (arith, turn j .ticks-test .taken)) (omega (arith, whole (turn j) .clock)) r)
