@@ -19,7 +19,7 @@ use Rattle.replay.specs.Replay.{World}
 use Rattle.mode.specs.Ruling.{Ruling, capacity, declined, callRecords, changesTo, decided, modeRuling, Follows}
 use Rattle.mode.proofs.Rulings.{follows-told}
 use Rattle.motion.specs.Does.{Reply, answered, Gives}
-use Rattle.firmware.specs.Numbers.{numberOf, numberSaid, answerOf, outcomeSaid}
+use Rattle.firmware.specs.Numbers.{numberOf, numberSaid, answerOf}
 
 -- what a ruling answers is said by its number: 3, 7, 1, 2 and 8 are no 0
 ruling-numbered : (b : Board) (n : ℕ) (track : ℤ) (code : ℕ) →
@@ -41,7 +41,7 @@ ruling-numbered b n track code =
 -- what follows a ruling does so by the number of its answer
 pub follows-number : (b : Board) (n code : ℕ) {told given : ℤ} {o : Outcome} {before after : List ℕ} → told ≡ given →
     Follows (modeRuling b n told code) o before after → {number : ℕ} → number ≡ numberOf (o .answer) →
-    Follows (modeRuling b n given code) (outcomeSaid (record { board = o .board; number = number })) before after
+    Follows (modeRuling b n given code) (record { answer = answerOf number; board = o .board }) before after
 follows-number b n code {told} {given} e f q =
     let g = follows-told b n code e f in
     record {

@@ -25,7 +25,9 @@ pub extern "C" fn gridstep_play(b: &mut Board, track: i64, log: &mut [u8]) -> u3
     ensures { λ r. ⌜ Gives (does (call.Play track) (world (now (b .entry)) (now (log .entry)))) (numberSaid r) (now (b .exit)) (now (log .exit)) ⌝ }
 {
     let r = value::play(*b, track, log);
-    *b = r.board;
+    b.tracks = r.tracks;
+    b.clock = r.clock;
+    b.held = r.held;
     r.number
 }
 
@@ -34,7 +36,9 @@ pub extern "C" fn gridstep_pause(b: &mut Board, track: i64, log: &mut [u8]) -> u
     ensures { λ r. ⌜ Gives (does (call.Pause track) (world (now (b .entry)) (now (log .entry)))) (numberSaid r) (now (b .exit)) (now (log .exit)) ⌝ }
 {
     let r = value::pause(*b, track, log);
-    *b = r.board;
+    b.tracks = r.tracks;
+    b.clock = r.clock;
+    b.held = r.held;
     r.number
 }
 
@@ -43,7 +47,9 @@ pub extern "C" fn gridstep_resume(b: &mut Board, track: i64, log: &mut [u8]) -> 
     ensures { λ r. ⌜ Gives (does (call.Resume track) (world (now (b .entry)) (now (log .entry)))) (numberSaid r) (now (b .exit)) (now (log .exit)) ⌝ }
 {
     let r = value::resume(*b, track, log);
-    *b = r.board;
+    b.tracks = r.tracks;
+    b.clock = r.clock;
+    b.held = r.held;
     r.number
 }
 
@@ -52,7 +58,9 @@ pub extern "C" fn gridstep_stop(b: &mut Board, track: i64, log: &mut [u8]) -> u3
     ensures { λ r. ⌜ Gives (does (call.Stop track) (world (now (b .entry)) (now (log .entry)))) (numberSaid r) (now (b .exit)) (now (log .exit)) ⌝ }
 {
     let r = value::stop(*b, track, log);
-    *b = r.board;
+    b.tracks = r.tracks;
+    b.clock = r.clock;
+    b.held = r.held;
     r.number
 }
 
@@ -61,6 +69,8 @@ pub extern "C" fn gridstep_advance(b: &mut Board, count: i64, log: &mut [u8]) ->
     ensures { λ r. ⌜ Gives (does (call.Advance count) (world (now (b .entry)) (now (log .entry)))) (endingSaid r) (now (b .exit)) (now (log .exit)) ⌝ }
 {
     let r = value::advance(*b, count, log);
-    *b = r.board;
+    b.tracks = r.tracks;
+    b.clock = r.clock;
+    b.held = r.held;
     r.ending
 }

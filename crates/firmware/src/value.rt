@@ -3,13 +3,15 @@ use advance::proceed;
 use board::Board;
 use mode::judge;
 use motion::advance::Advanced;
+use track::Ticks;
+use track::Track;
 use track::setup::Answer;
 ghost use mathlib.Core.Path.{_≡_};
 ghost use lib.ListN.{length};
 ghost use Rattle.mode.specs.Ruling.{Follows, modeRuling};
 ghost use Rattle.motion.specs.Does.{Gives, does, world, advancedSaid};
 ghost use Rattle.motion.specs.declared.call.Call.the-variants as call;
-ghost use Rattle.firmware.specs.Numbers.{numberOf, numberSaid, outcomeSaid, endingSaid};
+ghost use Rattle.firmware.specs.Numbers.{boardAfter, numberOf, numberSaid, outcomeSaid, endingSaid};
 
 // How an advance ended: the reason, with the ticks taken or, for a refusal, its number.
 #[repr(C)]
@@ -28,15 +30,19 @@ impl Ending {
     pub const REFUSED: u32 = 3;
 }
 
-// The board after a mode call, and 0 or the refusal's number.
+// What a mode call leaves of a board's tracks, clock and count of records held, and 0 or the refusal's number.
 pub struct Answered {
-    pub board: Board,
+    pub tracks: [Track; Board::TRACKS],
+    pub clock: Ticks,
+    pub held: u64,
     pub number: u32,
 }
 
-// The board after an advance, and how it ended.
+// What an advance leaves of them, and how it ended.
 pub struct Ended {
-    pub board: Board,
+    pub tracks: [Track; Board::TRACKS],
+    pub clock: Ticks,
+    pub held: u64,
     pub ending: Ending,
 }
 
@@ -50,10 +56,11 @@ fn number_of(a: Answer) -> u32
 }
 
 // A mode call by its number, 1 play, 2 pause, 3 resume, 4 stop.
-fn mode_call(mut b: Board, track: i64, call: u8, log: &mut [u8]) -> Answered
-    ensures { λ r. ⌜ Follows (modeRuling b (length (now (log .entry))) track call) (outcomeSaid r) (now (log .entry)) (now (log .exit)) ⌝ }
+fn mode_call(b: Board, track: i64, call: u8, log: &mut [u8]) -> Answered
+    ensures { λ r. ⌜ Follows (modeRuling b (length (now (log .entry))) track call) (outcomeSaid b r) (now (log .entry)) (now (log .exit)) ⌝ }
 {
-    let tracks = b.tracks;
+    let clock = b.clock;
+    let mut tracks = b.tracks;
     let r = judge(
         tracks,
         b.present,
@@ -70,31 +77,35 @@ fn mode_call(mut b: Board, track: i64, call: u8, log: &mut [u8]) -> Answered
     let at = r.at;
     let after = r.track;
     let number = number_of(answer);
-    b.tracks[at] = after;
-    b.held = r.held;
-    Answered { board: b, number }
+    tracks[at] = after;
+    Answered {
+        tracks,
+        clock,
+        held: r.held,
+        number,
+    }
 }
 
 pub fn play(b: Board, track: i64, log: &mut [u8]) -> Answered
-    ensures { λ r. ⌜ Gives (does (call.Play track) (world b (now (log .entry)))) (numberSaid (r .number)) (r .board) (now (log .exit)) ⌝ }
+    ensures { λ r. ⌜ Gives (does (call.Play track) (world b (now (log .entry)))) (numberSaid (r .number)) (boardAfter b (r .tracks) (r .clock) (r .held)) (now (log .exit)) ⌝ }
 {
     mode_call(b, track, 1, log)
 }
 
 pub fn pause(b: Board, track: i64, log: &mut [u8]) -> Answered
-    ensures { λ r. ⌜ Gives (does (call.Pause track) (world b (now (log .entry)))) (numberSaid (r .number)) (r .board) (now (log .exit)) ⌝ }
+    ensures { λ r. ⌜ Gives (does (call.Pause track) (world b (now (log .entry)))) (numberSaid (r .number)) (boardAfter b (r .tracks) (r .clock) (r .held)) (now (log .exit)) ⌝ }
 {
     mode_call(b, track, 2, log)
 }
 
 pub fn resume(b: Board, track: i64, log: &mut [u8]) -> Answered
-    ensures { λ r. ⌜ Gives (does (call.Resume track) (world b (now (log .entry)))) (numberSaid (r .number)) (r .board) (now (log .exit)) ⌝ }
+    ensures { λ r. ⌜ Gives (does (call.Resume track) (world b (now (log .entry)))) (numberSaid (r .number)) (boardAfter b (r .tracks) (r .clock) (r .held)) (now (log .exit)) ⌝ }
 {
     mode_call(b, track, 3, log)
 }
 
 pub fn stop(b: Board, track: i64, log: &mut [u8]) -> Answered
-    ensures { λ r. ⌜ Gives (does (call.Stop track) (world b (now (log .entry)))) (numberSaid (r .number)) (r .board) (now (log .exit)) ⌝ }
+    ensures { λ r. ⌜ Gives (does (call.Stop track) (world b (now (log .entry)))) (numberSaid (r .number)) (boardAfter b (r .tracks) (r .clock) (r .held)) (now (log .exit)) ⌝ }
 {
     mode_call(b, track, 4, log)
 }
@@ -122,8 +133,8 @@ fn ending_of(a: Advanced) -> Ending
     }
 }
 
-pub fn advance(mut b: Board, count: i64, log: &mut [u8]) -> Ended
-    ensures { λ r. ⌜ Gives (does (call.Advance count) (world b (now (log .entry)))) (endingSaid (r .ending)) (r .board) (now (log .exit)) ⌝ }
+pub fn advance(b: Board, count: i64, log: &mut [u8]) -> Ended
+    ensures { λ r. ⌜ Gives (does (call.Advance count) (world b (now (log .entry)))) (endingSaid (r .ending)) (boardAfter b (r .tracks) (r .clock) (r .held)) (now (log .exit)) ⌝ }
 {
     let tracks = b.tracks;
     let left = proceed(
@@ -140,8 +151,11 @@ pub fn advance(mut b: Board, count: i64, log: &mut [u8]) -> Ended
     let answer = left.answer;
     let after = left.tracks;
     let ending = ending_of(answer);
-    b.tracks = after;
-    b.clock.0 = left.clock.0;
-    b.held = left.held as u64;
-    Ended { board: b, ending }
+    let clock = left.clock;
+    Ended {
+        tracks: after,
+        clock,
+        held: left.held as u64,
+        ending,
+    }
 }

@@ -18,19 +18,19 @@ number-of-requires c κs = search needs
 long : (s : tie.Start) → length (s .args .t1 .tracks) ≡ 16
 long s = search (length-mapped, needs)
 
-mul-after : tie.Need-mul-after
-mul-after c = let l = c .before .before .before .before .judge .ensures .1 in omega arith
+mul-tracks : tie.Need-mul-tracks
+mul-tracks c = let l = c .before .before .before .before .judge .ensures .1 in omega arith
 
-element-set-from-after : tie.Need-element-set-from-after
-element-set-from-after c = let l = c .before .before .before .before .judge .ensures .1 in omega (arith, long (c .before .before .before .before .before .before .before .before .before .before .before .before .before .before))
+array-set-from-tracks : tie.Need-array-set-from-tracks
+array-set-from-tracks c = let l = c .before .before .before .before .judge .ensures .1 in omega (arith, long (c .before .before .before .before .before .before .before .before .before .before .before .before .before .before .before))
 
 same-length : tie.Need-same-length
 same-length c = search needs
 
 returns : tie.Need-returns
 returns c =
-    let s = c .before .before .before .before .before .before .before .before .before .before .before .before .before .before in
+    let s = c .before .before .before .before .before .before .before .before .before .before .before .before .before .before .before in
     follows-number (s .args .t1) _ _ (toZ-ofZ (s .fits .track)) (c .before .before .before .before .judge .ensures .0) (c .number-of .ensures)
 
 pub mode-call-spec : {M : Type 1} → statement M
-mode-call-spec = tie.close (tie.spec judge-requires number-of-requires mul-after element-set-from-after same-length returns)
+mode-call-spec = tie.close (tie.spec judge-requires number-of-requires mul-tracks array-set-from-tracks same-length returns)
