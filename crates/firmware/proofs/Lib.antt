@@ -1,4 +1,5 @@
 pub mod Numbering
 pub mod Shapes
+pub mod Rows
 pub mod Lent
 pub mod DoorLaws

@@ -24,7 +24,17 @@ pub extern "C" fn gridstep_new() -> Board
 pub extern "C" fn gridstep_play(b: &mut Board, track: i64, log: &mut [u8]) -> u32
     ensures { λ r. ⌜ Gives (does (call.Play track) (world (now (b .entry)) (now (log .entry)))) (numberSaid r) (now (b .exit)) (now (log .exit)) ⌝ }
 {
-    let r = value::play(*b, track, log);
+    let r = value::play(
+        b.tracks,
+        b.present,
+        b.clock,
+        &b.points.keys,
+        &b.points.infos,
+        b.points.count,
+        b.held,
+        track,
+        log,
+    );
     b.tracks = r.tracks;
     b.clock = r.clock;
     b.held = r.held;
@@ -35,7 +45,17 @@ pub extern "C" fn gridstep_play(b: &mut Board, track: i64, log: &mut [u8]) -> u3
 pub extern "C" fn gridstep_pause(b: &mut Board, track: i64, log: &mut [u8]) -> u32
     ensures { λ r. ⌜ Gives (does (call.Pause track) (world (now (b .entry)) (now (log .entry)))) (numberSaid r) (now (b .exit)) (now (log .exit)) ⌝ }
 {
-    let r = value::pause(*b, track, log);
+    let r = value::pause(
+        b.tracks,
+        b.present,
+        b.clock,
+        &b.points.keys,
+        &b.points.infos,
+        b.points.count,
+        b.held,
+        track,
+        log,
+    );
     b.tracks = r.tracks;
     b.clock = r.clock;
     b.held = r.held;
@@ -46,7 +66,17 @@ pub extern "C" fn gridstep_pause(b: &mut Board, track: i64, log: &mut [u8]) -> u
 pub extern "C" fn gridstep_resume(b: &mut Board, track: i64, log: &mut [u8]) -> u32
     ensures { λ r. ⌜ Gives (does (call.Resume track) (world (now (b .entry)) (now (log .entry)))) (numberSaid r) (now (b .exit)) (now (log .exit)) ⌝ }
 {
-    let r = value::resume(*b, track, log);
+    let r = value::resume(
+        b.tracks,
+        b.present,
+        b.clock,
+        &b.points.keys,
+        &b.points.infos,
+        b.points.count,
+        b.held,
+        track,
+        log,
+    );
     b.tracks = r.tracks;
     b.clock = r.clock;
     b.held = r.held;
@@ -57,7 +87,17 @@ pub extern "C" fn gridstep_resume(b: &mut Board, track: i64, log: &mut [u8]) -> 
 pub extern "C" fn gridstep_stop(b: &mut Board, track: i64, log: &mut [u8]) -> u32
     ensures { λ r. ⌜ Gives (does (call.Stop track) (world (now (b .entry)) (now (log .entry)))) (numberSaid r) (now (b .exit)) (now (log .exit)) ⌝ }
 {
-    let r = value::stop(*b, track, log);
+    let r = value::stop(
+        b.tracks,
+        b.present,
+        b.clock,
+        &b.points.keys,
+        &b.points.infos,
+        b.points.count,
+        b.held,
+        track,
+        log,
+    );
     b.tracks = r.tracks;
     b.clock = r.clock;
     b.held = r.held;
@@ -68,7 +108,17 @@ pub extern "C" fn gridstep_stop(b: &mut Board, track: i64, log: &mut [u8]) -> u3
 pub extern "C" fn gridstep_advance(b: &mut Board, count: i64, log: &mut [u8]) -> Ending
     ensures { λ r. ⌜ Gives (does (call.Advance count) (world (now (b .entry)) (now (log .entry)))) (endingSaid r) (now (b .exit)) (now (log .exit)) ⌝ }
 {
-    let r = value::advance(*b, count, log);
+    let r = value::advance(
+        b.tracks,
+        b.present,
+        b.clock,
+        &b.points.keys,
+        &b.points.infos,
+        b.points.count,
+        b.held,
+        count,
+        log,
+    );
     b.tracks = r.tracks;
     b.clock = r.clock;
     b.held = r.held;

@@ -1,4 +1,4 @@
-// The same calls on a board by value, with answers that are numbers.
+// The same calls on a board that is given by its parts, with answers that are numbers.
 use advance::proceed;
 use board::Board;
 use mode::judge;
@@ -8,7 +8,8 @@ use track::Track;
 use track::setup::Answer;
 ghost use mathlib.Core.Path.{_≡_};
 ghost use lib.ListN.{length};
-ghost use Rattle.mode.specs.Ruling.{Follows, modeRuling};
+ghost use Rattle.points.specs.Points.{pointMost};
+ghost use Rattle.mode.specs.Ruling.{boardOf, Follows, modeRuling};
 ghost use Rattle.motion.specs.Does.{Gives, does, world, advancedSaid};
 ghost use Rattle.motion.specs.declared.call.Call.the-variants as call;
 ghost use Rattle.firmware.specs.Numbers.{boardAfter, numberOf, numberSaid, outcomeSaid, endingSaid};
@@ -56,19 +57,29 @@ fn number_of(a: Answer) -> u32
 }
 
 // A mode call by its number, 1 play, 2 pause, 3 resume, 4 stop.
-fn mode_call(b: Board, track: i64, call: u8, log: &mut [u8]) -> Answered
-    ensures { λ r. ⌜ Follows (modeRuling b (length (now (log .entry))) track call) (outcomeSaid b r) (now (log .entry)) (now (log .exit)) ⌝ }
+fn mode_call<'a>(
+    mut tracks: [Track; Board::TRACKS],
+    present: u16,
+    clock: Ticks,
+    keys: &'a [u32],
+    infos: &'a [u32],
+    n: usize,
+    held: u64,
+    track: i64,
+    call: u8,
+    log: &mut [u8],
+) -> Answered
+    requires { ⌜ (length (now keys) ≡ pointMost) × (length (now infos) ≡ pointMost) ⌝ }
+    ensures { λ r. ⌜ Follows (modeRuling (boardOf tracks present (now (keys .entry)) (now (infos .entry)) n (clock .0) held) (length (now (log .entry))) track call) (outcomeSaid (boardOf tracks present (now (keys .entry)) (now (infos .entry)) n (clock .0) held) r) (now (log .entry)) (now (log .exit)) ⌝ }
 {
-    let clock = b.clock;
-    let mut tracks = b.tracks;
     let r = judge(
         tracks,
-        b.present,
-        b.clock,
-        &b.points.keys,
-        &b.points.infos,
-        b.points.count,
-        b.held,
+        present,
+        clock,
+        keys,
+        infos,
+        n,
+        held,
         track,
         call,
         log,
@@ -86,28 +97,72 @@ fn mode_call(b: Board, track: i64, call: u8, log: &mut [u8]) -> Answered
     }
 }
 
-pub fn play(b: Board, track: i64, log: &mut [u8]) -> Answered
-    ensures { λ r. ⌜ Gives (does (call.Play track) (world b (now (log .entry)))) (numberSaid (r .number)) (boardAfter b (r .tracks) (r .clock) (r .held)) (now (log .exit)) ⌝ }
+pub fn play<'a>(
+    tracks: [Track; Board::TRACKS],
+    present: u16,
+    clock: Ticks,
+    keys: &'a [u32],
+    infos: &'a [u32],
+    n: usize,
+    held: u64,
+    track: i64,
+    log: &mut [u8],
+) -> Answered
+    requires { ⌜ (length (now keys) ≡ pointMost) × (length (now infos) ≡ pointMost) ⌝ }
+    ensures { λ r. ⌜ Gives (does (call.Play track) (world (boardOf tracks present (now (keys .entry)) (now (infos .entry)) n (clock .0) held) (now (log .entry)))) (numberSaid (r .number)) (boardAfter (boardOf tracks present (now (keys .entry)) (now (infos .entry)) n (clock .0) held) (r .tracks) (r .clock) (r .held)) (now (log .exit)) ⌝ }
 {
-    mode_call(b, track, 1, log)
+    mode_call(tracks, present, clock, keys, infos, n, held, track, 1, log)
 }
 
-pub fn pause(b: Board, track: i64, log: &mut [u8]) -> Answered
-    ensures { λ r. ⌜ Gives (does (call.Pause track) (world b (now (log .entry)))) (numberSaid (r .number)) (boardAfter b (r .tracks) (r .clock) (r .held)) (now (log .exit)) ⌝ }
+pub fn pause<'a>(
+    tracks: [Track; Board::TRACKS],
+    present: u16,
+    clock: Ticks,
+    keys: &'a [u32],
+    infos: &'a [u32],
+    n: usize,
+    held: u64,
+    track: i64,
+    log: &mut [u8],
+) -> Answered
+    requires { ⌜ (length (now keys) ≡ pointMost) × (length (now infos) ≡ pointMost) ⌝ }
+    ensures { λ r. ⌜ Gives (does (call.Pause track) (world (boardOf tracks present (now (keys .entry)) (now (infos .entry)) n (clock .0) held) (now (log .entry)))) (numberSaid (r .number)) (boardAfter (boardOf tracks present (now (keys .entry)) (now (infos .entry)) n (clock .0) held) (r .tracks) (r .clock) (r .held)) (now (log .exit)) ⌝ }
 {
-    mode_call(b, track, 2, log)
+    mode_call(tracks, present, clock, keys, infos, n, held, track, 2, log)
 }
 
-pub fn resume(b: Board, track: i64, log: &mut [u8]) -> Answered
-    ensures { λ r. ⌜ Gives (does (call.Resume track) (world b (now (log .entry)))) (numberSaid (r .number)) (boardAfter b (r .tracks) (r .clock) (r .held)) (now (log .exit)) ⌝ }
+pub fn resume<'a>(
+    tracks: [Track; Board::TRACKS],
+    present: u16,
+    clock: Ticks,
+    keys: &'a [u32],
+    infos: &'a [u32],
+    n: usize,
+    held: u64,
+    track: i64,
+    log: &mut [u8],
+) -> Answered
+    requires { ⌜ (length (now keys) ≡ pointMost) × (length (now infos) ≡ pointMost) ⌝ }
+    ensures { λ r. ⌜ Gives (does (call.Resume track) (world (boardOf tracks present (now (keys .entry)) (now (infos .entry)) n (clock .0) held) (now (log .entry)))) (numberSaid (r .number)) (boardAfter (boardOf tracks present (now (keys .entry)) (now (infos .entry)) n (clock .0) held) (r .tracks) (r .clock) (r .held)) (now (log .exit)) ⌝ }
 {
-    mode_call(b, track, 3, log)
+    mode_call(tracks, present, clock, keys, infos, n, held, track, 3, log)
 }
 
-pub fn stop(b: Board, track: i64, log: &mut [u8]) -> Answered
-    ensures { λ r. ⌜ Gives (does (call.Stop track) (world b (now (log .entry)))) (numberSaid (r .number)) (boardAfter b (r .tracks) (r .clock) (r .held)) (now (log .exit)) ⌝ }
+pub fn stop<'a>(
+    tracks: [Track; Board::TRACKS],
+    present: u16,
+    clock: Ticks,
+    keys: &'a [u32],
+    infos: &'a [u32],
+    n: usize,
+    held: u64,
+    track: i64,
+    log: &mut [u8],
+) -> Answered
+    requires { ⌜ (length (now keys) ≡ pointMost) × (length (now infos) ≡ pointMost) ⌝ }
+    ensures { λ r. ⌜ Gives (does (call.Stop track) (world (boardOf tracks present (now (keys .entry)) (now (infos .entry)) n (clock .0) held) (now (log .entry)))) (numberSaid (r .number)) (boardAfter (boardOf tracks present (now (keys .entry)) (now (infos .entry)) n (clock .0) held) (r .tracks) (r .clock) (r .held)) (now (log .exit)) ⌝ }
 {
-    mode_call(b, track, 4, log)
+    mode_call(tracks, present, clock, keys, infos, n, held, track, 4, log)
 }
 
 fn ending_of(a: Advanced) -> Ending
@@ -133,21 +188,21 @@ fn ending_of(a: Advanced) -> Ending
     }
 }
 
-pub fn advance(b: Board, count: i64, log: &mut [u8]) -> Ended
-    ensures { λ r. ⌜ Gives (does (call.Advance count) (world b (now (log .entry)))) (endingSaid (r .ending)) (boardAfter b (r .tracks) (r .clock) (r .held)) (now (log .exit)) ⌝ }
+pub fn advance<'a>(
+    tracks: [Track; Board::TRACKS],
+    present: u16,
+    clock: Ticks,
+    keys: &'a [u32],
+    infos: &'a [u32],
+    n: usize,
+    held: u64,
+    count: i64,
+    log: &mut [u8],
+) -> Ended
+    requires { ⌜ (length (now keys) ≡ pointMost) × (length (now infos) ≡ pointMost) ⌝ }
+    ensures { λ r. ⌜ Gives (does (call.Advance count) (world (boardOf tracks present (now (keys .entry)) (now (infos .entry)) n (clock .0) held) (now (log .entry)))) (endingSaid (r .ending)) (boardAfter (boardOf tracks present (now (keys .entry)) (now (infos .entry)) n (clock .0) held) (r .tracks) (r .clock) (r .held)) (now (log .exit)) ⌝ }
 {
-    let tracks = b.tracks;
-    let left = proceed(
-        tracks,
-        b.present,
-        b.clock,
-        &b.points.keys,
-        &b.points.infos,
-        b.points.count,
-        b.held,
-        count,
-        log,
-    );
+    let left = proceed(tracks, present, clock, keys, infos, n, held, count, log);
     let answer = left.answer;
     let after = left.tracks;
     let ending = ending_of(answer);
