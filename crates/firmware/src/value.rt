@@ -97,7 +97,7 @@ fn mode_call<'a>(
     }
 }
 
-pub fn play<'a>(
+pub(crate) fn play<'a>(
     tracks: [Track; Board::TRACKS],
     present: u16,
     clock: Ticks,
@@ -114,7 +114,7 @@ pub fn play<'a>(
     mode_call(tracks, present, clock, keys, infos, n, held, track, 1, log)
 }
 
-pub fn pause<'a>(
+pub(crate) fn pause<'a>(
     tracks: [Track; Board::TRACKS],
     present: u16,
     clock: Ticks,
@@ -131,7 +131,7 @@ pub fn pause<'a>(
     mode_call(tracks, present, clock, keys, infos, n, held, track, 2, log)
 }
 
-pub fn resume<'a>(
+pub(crate) fn resume<'a>(
     tracks: [Track; Board::TRACKS],
     present: u16,
     clock: Ticks,
@@ -148,7 +148,7 @@ pub fn resume<'a>(
     mode_call(tracks, present, clock, keys, infos, n, held, track, 3, log)
 }
 
-pub fn stop<'a>(
+pub(crate) fn stop<'a>(
     tracks: [Track; Board::TRACKS],
     present: u16,
     clock: Ticks,
@@ -188,7 +188,7 @@ fn ending_of(a: Advanced) -> Ending
     }
 }
 
-pub fn advance<'a>(
+pub(crate) fn advance<'a>(
     tracks: [Track; Board::TRACKS],
     present: u16,
     clock: Ticks,

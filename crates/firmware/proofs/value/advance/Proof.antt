@@ -15,7 +15,7 @@ same-length : tie.Need-same-length
 same-length c = search needs
 
 returns : tie.Need-returns
-returns c = gives-as (c .ending-of .ensures) (advance-told _ _ (toZ-ofZ (c .before .before .before .before .before .before .before .before .before .fits .count)) (c .before .before .before .before .proceed .ensures))
+returns c = gives-as (c .before .ending-of .ensures) (advance-told _ _ (toZ-ofZ (c .before .before .before .before .before .before .before .before .before .before .fits .count)) (c .before .before .before .before .before .proceed .ensures))
 
 pub advance-spec : {M : Type 1} → statement M
 advance-spec = tie.close (tie.spec proceed-requires ending-of-requires same-length returns)
