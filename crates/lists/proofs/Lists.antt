@@ -311,6 +311,12 @@ step-met κs (call.Track i) w = (trackOf (w .board) i, refl, refl, silent (w .bo
 step-met κs (call.Point i p) w = (pointIn (w .board) i p, refl, refl, silent (w .board) w)
 step-met κs (call.PointCount i from to) w = (countIn (w .board) i from to, refl, refl, silent (w .board) w)
 
+-- what any function promises to give for a call is a step of it
+pub gives-step : (κs : Lfts 1) (c : Call) (w : World Board) {a : Reply} {v : World Board} → Gives (does c w) a (v .board) (v .log) → Step c w a v
+gives-step κs c w {a} {v} g =
+    subst (λ (x : Reply). Step c w x v) (sym (g .answer-is))
+    (subst (λ (u : World Board). Step c w (does c w .answer) u) (λ i. world (sym (g .board-is) i) (sym (g .log-is) i)) (step-met κs c w))
+
 -- every list has a trace, on any board and log: no contract contradicts another
 pub traces : (κs : Lfts 1) (cs : List Call) (w : World Board)
     → Trace cs w (performs (perform gridstep) (cutUp cs) w .answers) (performs (perform gridstep) (cutUp cs) w .last)
