@@ -59,7 +59,7 @@ struct gridstep_points {
     size_t count;        /* 0 to 256 */
 };
 
-/* A board. Tracks that are not present are never read. */
+/* A board. What tracks that are not present hold means nothing; their bools must be 0 or 1 all the same. */
 struct gridstep_board {
     struct gridstep_track tracks[16];
     uint16_t present; /* bit i: track i is present */

@@ -24,6 +24,9 @@ pub struct Board {
 impl Board {
     pub const TRACKS: usize = 16;
 
+    // The highest number of a track.
+    pub const LAST: u32 = 15;
+
     // Fresh: no track, no point, clock 0, held 0.
     pub fn new() -> Self
         ensures { λ r. ⌜ r ≡ freshBoard ⌝ }

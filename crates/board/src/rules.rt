@@ -19,7 +19,7 @@ ghost use mathlib.Core.Bool.{false, not, _||_};
 pub fn is_present(present: u16, track: u32) -> bool
     ensures { λ r. ⌜ r ≡ isPresent present track ⌝ }
 {
-    if 16 <= track {
+    if Board::LAST < track {
         return false;
     }
     (present >> track) % 2 == 1
@@ -38,7 +38,7 @@ pub fn with_track(present: u16, track: u32) -> u16
 pub fn found(present: u16, track: i64) -> Natural
     ensures { λ r. ⌜ r ≡ foundIn present track ⌝ }
 {
-    let Natural::In(i) = in_range(track, 0, 15) else {
+    let Natural::In(i) = in_range(track, 0, Board::LAST) else {
         return Natural::Outside;
     };
     if is_present(present, i) {
@@ -96,7 +96,7 @@ pub fn able(present: u16, p: Point) -> bool
     if event == 0 {
         return false;
     }
-    if 255 < event {
+    if Point::EVENT < event {
         return false;
     }
     if 4 < command {

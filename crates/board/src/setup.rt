@@ -76,7 +76,7 @@ fn draw(
     let Natural::In(c) = in_range(command, 0, 4) else {
         return Drawn::Bad;
     };
-    let Natural::In(g) = in_range(target, 0, 15) else {
+    let Natural::In(g) = in_range(target, 0, Board::LAST) else {
         return Drawn::Bad;
     };
     let p = Point {
@@ -155,7 +155,7 @@ impl Board {
         ) {
             return refused(Answer::VALUE, self);
         }
-        let Natural::In(i) = in_range(number, 0, 15) else {
+        let Natural::In(i) = in_range(number, 0, Board::LAST) else {
             return refused(Board::TRACK, self);
         };
         if is_present(self.present, i) {

@@ -2,6 +2,7 @@
 use board::Board;
 use points::Points;
 use record::Record;
+use tick::Staged;
 use tick::commit;
 use tick::note;
 use tick::playing;
@@ -67,7 +68,7 @@ pub fn run<'a>(
     let mut held = kept;
     let mut taken: u32 = 0;
     let mut look = false;
-    let mut stage = [0u8; 768];
+    let mut stage = [0u8; Staged::BYTES];
     let mut reached = [0u32; Board::TRACKS];
     let mut answer = Advanced::Done(Ticks(0));
     'ticks: while taken < wanted {
@@ -90,7 +91,7 @@ pub fn run<'a>(
             continue 'ticks;
         }
         let room = slots - held;
-        if room < 48 {
+        if room < Staged::MOST {
             let moved = leapt(tracks, word, Ticks(calm));
             back = moved;
         }

@@ -1,4 +1,4 @@
-// The board in motion: mode calls, the tick, advance, and lists of calls.
+// The board in motion: mode calls, the tick loop, and calls as values.
 pub mod advance;
 pub mod call;
 pub mod modes;

@@ -265,6 +265,9 @@ impl Points {
 }
 
 impl Point {
+    // The highest event.
+    pub const EVENT: u16 = 255;
+
     // An info is event + WAIT * wait + COMMAND * command + TARGET * target; it is never 0, so that 0 says that there is no point.
     pub const WAIT: u32 = 65536;
 

@@ -29,6 +29,13 @@ pub struct Staged {
     pub count: usize,
 }
 
+impl Staged {
+    // The most records of a tick, and their bytes.
+    pub const MOST: usize = 48;
+
+    pub const BYTES: usize = 768;
+}
+
 // The tracks after a tick's commands, the number of records staged, and the word of the tracks that play then.
 pub struct Commanded {
     pub tracks: [Track; Board::TRACKS],
