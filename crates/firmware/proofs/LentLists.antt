@@ -14,7 +14,7 @@ use Rattle.firmware.specs.declared.value.Ending.{Ending}
 use Rattle.firmware.specs.Numbers.{numberSaid, endingSaid}
 use Rattle.firmware.proofs.Lent.{promised}
 
--- A list of calls: each mode call and each advance by what its function over the lent board promises (`lent-spec` shows that the code
+-- A list of calls: each mode call and each advance by what its function over the lent board promises (`spec-of` shows that the code
 -- keeps it), any other call by the contract of its function by value.
 pub data Lending : List Call → World Board → List Reply → World Board → Type 0 where
   none : {w : World Board} → Lending [] w [] w

@@ -1,7 +1,10 @@
 pub mod Numbering
-pub mod Shapes
+pub mod Fields
 pub mod Rows
+pub mod Element
 pub mod LentCode
 pub mod Lent
+pub mod LentAdvance
+pub mod LentMode
 pub mod LentLists
 pub mod DoorLaws

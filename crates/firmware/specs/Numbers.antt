@@ -1,15 +1,24 @@
 -- The answers that the firmware gets as numbers, and what each says by 01.
-use Prim.Native.Nat.{ℕ, zero, suc}
+use Prim.Native.Nat.{ℕ, zero, suc, _<_}
 use mathlib.Core.List.{List}
+use lib.IntN.{ℤ}
+use lib.ListN.{length, set}
 use Rattle.track.specs.declared.Track.{Track}
 use Rattle.track.specs.declared.Ticks.{Ticks}
 use Rattle.track.specs.declared.setup.Answer.{Answer}
 use Rattle.track.specs.declared.setup.Answer.the-variants as answer
 use Rattle.board.specs.declared.Board.{Board}
 use Rattle.board.specs.declared.setup.Outcome.{Outcome}
-use Rattle.motion.specs.Does.{Reply, accepted, refused, done, logFull, clockEnded}
+use Rattle.board.specs.Rule.{trackCount}
+use Rattle.mode.specs.Ruling.{Follows, modeRuling}
+use Rattle.motion.specs.declared.call.Call.{Call}
+use Rattle.motion.specs.Does.{Reply, accepted, refused, done, logFull, clockEnded, Gives, does, world}
 use Rattle.firmware.specs.declared.value.Answered.{Answered}
 use Rattle.firmware.specs.declared.value.Ending.{Ending}
+
+-- the board after a call, which leaves its points and who is present as they are
+abbrev pub boardAfter : Board → List Track → Ticks → ℕ → Board
+boardAfter b tracks clock held = record { tracks = tracks; present = b .present; points = b .points; clock = clock; held = held }
 
 -- a mode call's answer: 0 accepted, else the refusal's number
 abbrev pub numberOf : Answer → ℕ
@@ -20,17 +29,16 @@ abbrev pub numberSaid : ℕ → Reply
 numberSaid zero = accepted
 numberSaid (suc n) = refused (suc n)
 
--- the board after a call, which leaves its points and who is present as they are
-abbrev pub boardAfter : Board → List Track → Ticks → ℕ → Board
-boardAfter b tracks clock held = record { tracks = tracks; present = b .present; points = b .points; clock = clock; held = held }
-
--- the same in the words of the call by value, with the board
+-- the same in the words of the call on a board's parts, with the board
 abbrev pub answerOf : ℕ → Answer
 answerOf zero = answer.Accepted
 answerOf (suc n) = answer.Refused (suc n)
 
+abbrev pub boardBy : Board → Answered → Board
+boardBy b r = boardAfter b (set (b .tracks) (r .at) (r .track)) (b .clock) (r .held)
+
 abbrev pub outcomeSaid : Board → Answered → Outcome
-outcomeSaid b r = record { answer = answerOf (r .number); board = boardAfter b (r .tracks) (r .clock) (r .held) }
+outcomeSaid b r = record { answer = answerOf (r .number); board = boardBy b r }
 
 -- an advance's: its reason, 0 Done, 1 LogFull, 2 ClockEnd, with the ticks taken, 3 a refusal, with its number; any other reason says
 -- what no advance answers
@@ -43,3 +51,11 @@ reasonSaid (suc (suc (suc (suc k)))) n = accepted
 
 abbrev pub endingSaid : Ending → Reply
 endingSaid e = reasonSaid (e .reason) (e .number)
+
+-- r is what the mode call by its number leaves of the board b and a log, by the ruling
+abbrev pub Rules : ℕ → Board → ℤ → List ℕ → Answered → List ℕ → Type 0
+Rules code b track log r log′ = Follows (modeRuling b (length log) track code) (outcomeSaid b r) log log′ × (r .at < trackCount)
+
+-- the same of a mode call, by what the call does
+abbrev pub Answers : Call → Board → List ℕ → Answered → List ℕ → Type 0
+Answers c b log r log′ = Gives (does c (world b log)) (numberSaid (r .number)) (boardBy b r) log′ × (r .at < trackCount)

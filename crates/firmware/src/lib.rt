@@ -1,7 +1,9 @@
 // The mode calls and advance over the one board that the firmware keeps and lends to every call, exported for C and Rust. There a
 // board is passed as a pointer, and a log as a pointer and a length.
+use advance::proceed;
 use board::Board;
 use value::Ending;
+use value::ending_of;
 ghost use mathlib.Core.Path.{_≡_};
 ghost use Rattle.board.specs.Rule.{freshBoard};
 ghost use Rattle.motion.specs.Does.{Gives, does, world};
@@ -35,8 +37,7 @@ pub extern "C" fn gridstep_play(b: &mut Board, track: i64, log: &mut [u8]) -> u3
         track,
         log,
     );
-    b.tracks = r.tracks;
-    b.clock = r.clock;
+    b.tracks[r.at] = r.track;
     b.held = r.held;
     r.number
 }
@@ -56,8 +57,7 @@ pub extern "C" fn gridstep_pause(b: &mut Board, track: i64, log: &mut [u8]) -> u
         track,
         log,
     );
-    b.tracks = r.tracks;
-    b.clock = r.clock;
+    b.tracks[r.at] = r.track;
     b.held = r.held;
     r.number
 }
@@ -77,8 +77,7 @@ pub extern "C" fn gridstep_resume(b: &mut Board, track: i64, log: &mut [u8]) -> 
         track,
         log,
     );
-    b.tracks = r.tracks;
-    b.clock = r.clock;
+    b.tracks[r.at] = r.track;
     b.held = r.held;
     r.number
 }
@@ -98,8 +97,7 @@ pub extern "C" fn gridstep_stop(b: &mut Board, track: i64, log: &mut [u8]) -> u3
         track,
         log,
     );
-    b.tracks = r.tracks;
-    b.clock = r.clock;
+    b.tracks[r.at] = r.track;
     b.held = r.held;
     r.number
 }
@@ -108,7 +106,7 @@ pub extern "C" fn gridstep_stop(b: &mut Board, track: i64, log: &mut [u8]) -> u3
 pub extern "C" fn gridstep_advance(b: &mut Board, count: i64, log: &mut [u8]) -> Ending
     ensures { λ r. ⌜ Gives (does (call.Advance count) (world (now (b .entry)) (now (log .entry)))) (endingSaid r) (now (b .exit)) (now (log .exit)) ⌝ }
 {
-    let r = value::advance(
+    let r = proceed(
         b.tracks,
         b.present,
         b.clock,
@@ -121,6 +119,6 @@ pub extern "C" fn gridstep_advance(b: &mut Board, count: i64, log: &mut [u8]) ->
     );
     b.tracks = r.tracks;
     b.clock = r.clock;
-    b.held = r.held;
-    r.ending
+    b.held = r.held as u64;
+    ending_of(r.answer)
 }

@@ -1,5 +1,4 @@
 // The same calls on a board that is given by its parts, with answers that are numbers.
-use advance::proceed;
 use board::Board;
 use mode::judge;
 use motion::advance::Advanced;
@@ -9,10 +8,10 @@ use track::setup::Answer;
 ghost use mathlib.Core.Path.{_≡_};
 ghost use lib.ListN.{length};
 ghost use Rattle.points.specs.Points.{pointMost};
-ghost use Rattle.mode.specs.Ruling.{boardOf, Follows, modeRuling};
-ghost use Rattle.motion.specs.Does.{Gives, does, world, advancedSaid};
+ghost use Rattle.mode.specs.Ruling.{boardOf};
+ghost use Rattle.motion.specs.Does.{advancedSaid};
 ghost use Rattle.motion.specs.declared.call.Call.the-variants as call;
-ghost use Rattle.firmware.specs.Numbers.{boardAfter, numberOf, numberSaid, outcomeSaid, endingSaid};
+ghost use Rattle.firmware.specs.Numbers.{Rules, Answers, numberOf, endingSaid};
 
 // How an advance ended: the reason, with the ticks taken or, for a refusal, its number.
 #[repr(C)]
@@ -31,20 +30,12 @@ impl Ending {
     pub const REFUSED: u32 = 3;
 }
 
-// What a mode call leaves of a board's tracks, clock and count of records held, and 0 or the refusal's number.
+// What a mode call changes of a board, one track and the number of records held, and 0 or the refusal's number.
 pub struct Answered {
-    pub tracks: [Track; Board::TRACKS],
-    pub clock: Ticks,
+    pub at: usize,
+    pub track: Track,
     pub held: u64,
     pub number: u32,
-}
-
-// What an advance leaves of them, and how it ended.
-pub struct Ended {
-    pub tracks: [Track; Board::TRACKS],
-    pub clock: Ticks,
-    pub held: u64,
-    pub ending: Ending,
 }
 
 fn number_of(a: Answer) -> u32
@@ -58,7 +49,7 @@ fn number_of(a: Answer) -> u32
 
 // A mode call by its number, 1 play, 2 pause, 3 resume, 4 stop.
 fn mode_call<'a>(
-    mut tracks: [Track; Board::TRACKS],
+    tracks: [Track; Board::TRACKS],
     present: u16,
     clock: Ticks,
     keys: &'a [u32],
@@ -70,7 +61,7 @@ fn mode_call<'a>(
     log: &mut [u8],
 ) -> Answered
     requires { ⌜ (length (now keys) ≡ pointMost) × (length (now infos) ≡ pointMost) ⌝ }
-    ensures { λ r. ⌜ Follows (modeRuling (boardOf tracks present (now (keys .entry)) (now (infos .entry)) n (clock .0) held) (length (now (log .entry))) track call) (outcomeSaid (boardOf tracks present (now (keys .entry)) (now (infos .entry)) n (clock .0) held) r) (now (log .entry)) (now (log .exit)) ⌝ }
+    ensures { λ r. ⌜ Rules call (boardOf tracks present (now (keys .entry)) (now (infos .entry)) n (clock .0) held) track (now (log .entry)) r (now (log .exit)) ⌝ }
 {
     let r = judge(
         tracks,
@@ -88,10 +79,9 @@ fn mode_call<'a>(
     let at = r.at;
     let after = r.track;
     let number = number_of(answer);
-    tracks[at] = after;
     Answered {
-        tracks,
-        clock,
+        at,
+        track: after,
         held: r.held,
         number,
     }
@@ -109,7 +99,7 @@ pub(crate) fn play<'a>(
     log: &mut [u8],
 ) -> Answered
     requires { ⌜ (length (now keys) ≡ pointMost) × (length (now infos) ≡ pointMost) ⌝ }
-    ensures { λ r. ⌜ Gives (does (call.Play track) (world (boardOf tracks present (now (keys .entry)) (now (infos .entry)) n (clock .0) held) (now (log .entry)))) (numberSaid (r .number)) (boardAfter (boardOf tracks present (now (keys .entry)) (now (infos .entry)) n (clock .0) held) (r .tracks) (r .clock) (r .held)) (now (log .exit)) ⌝ }
+    ensures { λ r. ⌜ Answers (call.Play track) (boardOf tracks present (now (keys .entry)) (now (infos .entry)) n (clock .0) held) (now (log .entry)) r (now (log .exit)) ⌝ }
 {
     mode_call(tracks, present, clock, keys, infos, n, held, track, 1, log)
 }
@@ -126,7 +116,7 @@ pub(crate) fn pause<'a>(
     log: &mut [u8],
 ) -> Answered
     requires { ⌜ (length (now keys) ≡ pointMost) × (length (now infos) ≡ pointMost) ⌝ }
-    ensures { λ r. ⌜ Gives (does (call.Pause track) (world (boardOf tracks present (now (keys .entry)) (now (infos .entry)) n (clock .0) held) (now (log .entry)))) (numberSaid (r .number)) (boardAfter (boardOf tracks present (now (keys .entry)) (now (infos .entry)) n (clock .0) held) (r .tracks) (r .clock) (r .held)) (now (log .exit)) ⌝ }
+    ensures { λ r. ⌜ Answers (call.Pause track) (boardOf tracks present (now (keys .entry)) (now (infos .entry)) n (clock .0) held) (now (log .entry)) r (now (log .exit)) ⌝ }
 {
     mode_call(tracks, present, clock, keys, infos, n, held, track, 2, log)
 }
@@ -143,7 +133,7 @@ pub(crate) fn resume<'a>(
     log: &mut [u8],
 ) -> Answered
     requires { ⌜ (length (now keys) ≡ pointMost) × (length (now infos) ≡ pointMost) ⌝ }
-    ensures { λ r. ⌜ Gives (does (call.Resume track) (world (boardOf tracks present (now (keys .entry)) (now (infos .entry)) n (clock .0) held) (now (log .entry)))) (numberSaid (r .number)) (boardAfter (boardOf tracks present (now (keys .entry)) (now (infos .entry)) n (clock .0) held) (r .tracks) (r .clock) (r .held)) (now (log .exit)) ⌝ }
+    ensures { λ r. ⌜ Answers (call.Resume track) (boardOf tracks present (now (keys .entry)) (now (infos .entry)) n (clock .0) held) (now (log .entry)) r (now (log .exit)) ⌝ }
 {
     mode_call(tracks, present, clock, keys, infos, n, held, track, 3, log)
 }
@@ -160,12 +150,12 @@ pub(crate) fn stop<'a>(
     log: &mut [u8],
 ) -> Answered
     requires { ⌜ (length (now keys) ≡ pointMost) × (length (now infos) ≡ pointMost) ⌝ }
-    ensures { λ r. ⌜ Gives (does (call.Stop track) (world (boardOf tracks present (now (keys .entry)) (now (infos .entry)) n (clock .0) held) (now (log .entry)))) (numberSaid (r .number)) (boardAfter (boardOf tracks present (now (keys .entry)) (now (infos .entry)) n (clock .0) held) (r .tracks) (r .clock) (r .held)) (now (log .exit)) ⌝ }
+    ensures { λ r. ⌜ Answers (call.Stop track) (boardOf tracks present (now (keys .entry)) (now (infos .entry)) n (clock .0) held) (now (log .entry)) r (now (log .exit)) ⌝ }
 {
     mode_call(tracks, present, clock, keys, infos, n, held, track, 4, log)
 }
 
-fn ending_of(a: Advanced) -> Ending
+pub(crate) fn ending_of(a: Advanced) -> Ending
     ensures { λ r. ⌜ endingSaid r ≡ advancedSaid a ⌝ }
 {
     match a {
@@ -185,32 +175,5 @@ fn ending_of(a: Advanced) -> Ending
             reason: Ending::REFUSED,
             number: n as u32,
         },
-    }
-}
-
-pub(crate) fn advance<'a>(
-    tracks: [Track; Board::TRACKS],
-    present: u16,
-    clock: Ticks,
-    keys: &'a [u32],
-    infos: &'a [u32],
-    n: usize,
-    held: u64,
-    count: i64,
-    log: &mut [u8],
-) -> Ended
-    requires { ⌜ (length (now keys) ≡ pointMost) × (length (now infos) ≡ pointMost) ⌝ }
-    ensures { λ r. ⌜ Gives (does (call.Advance count) (world (boardOf tracks present (now (keys .entry)) (now (infos .entry)) n (clock .0) held) (now (log .entry)))) (endingSaid (r .ending)) (boardAfter (boardOf tracks present (now (keys .entry)) (now (infos .entry)) n (clock .0) held) (r .tracks) (r .clock) (r .held)) (now (log .exit)) ⌝ }
-{
-    let left = proceed(tracks, present, clock, keys, infos, n, held, count, log);
-    let answer = left.answer;
-    let after = left.tracks;
-    let ending = ending_of(answer);
-    let clock = left.clock;
-    Ended {
-        tracks: after,
-        clock,
-        held: left.held as u64,
-        ending,
     }
 }
