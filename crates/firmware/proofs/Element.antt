@@ -29,9 +29,9 @@ use Rattle.track.proofs.Track as track-type
 use Rattle.track.proofs.Track.Laws as track-laws
 use Rattle.board.specs.declared.Board.{Board}
 use Rattle.board.specs.Rule.{noTrack}
+use Rattle.board.specs.Calls.{boardWith}
 use Rattle.board.proofs.Board as board-type
 use Rattle.board.proofs.Board.Laws as board-laws
-use Rattle.firmware.specs.Numbers.{boardAfter}
 use Rattle.firmware.proofs.Fields.{Tracks, tracksTy, boardVal, boardVals, tracks-is}
 
 abbrev One : RattleType
@@ -42,7 +42,7 @@ trackVal t = laws.val track-type.the-type track-laws.the-laws t
 
 -- the board with the track t at i
 abbrev pub withTrack : Board → ℕ → Track → Board
-withTrack b i t = boardAfter b (set (b .tracks) i t) (b .clock) (b .held)
+withTrack b i t = boardWith b (set (b .tracks) i t) (b .present) (b .points) (b .held)
 
 one-tells : Tells One (Is One) (laws.vals track-type.the-type track-laws.the-laws)
 one-tells = laws.tells track-type.the-type track-laws.the-laws

@@ -3,22 +3,17 @@ use Prim.Native.Nat.{ℕ, zero, suc, _<_}
 use mathlib.Core.List.{List}
 use lib.IntN.{ℤ}
 use lib.ListN.{length, set}
-use Rattle.track.specs.declared.Track.{Track}
-use Rattle.track.specs.declared.Ticks.{Ticks}
 use Rattle.track.specs.declared.setup.Answer.{Answer}
 use Rattle.track.specs.declared.setup.Answer.the-variants as answer
 use Rattle.board.specs.declared.Board.{Board}
 use Rattle.board.specs.declared.setup.Outcome.{Outcome}
 use Rattle.board.specs.Rule.{trackCount}
+use Rattle.board.specs.Calls.{boardWith}
 use Rattle.mode.specs.Ruling.{Follows, modeRuling}
 use Rattle.motion.specs.declared.call.Call.{Call}
 use Rattle.motion.specs.Does.{Reply, accepted, refused, done, logFull, clockEnded, Gives, does, world}
 use Rattle.firmware.specs.declared.value.Answered.{Answered}
 use Rattle.firmware.specs.declared.value.Ending.{Ending}
-
--- the board after a call, which leaves its points and who is present as they are
-abbrev pub boardAfter : Board → List Track → Ticks → ℕ → Board
-boardAfter b tracks clock held = record { tracks = tracks; present = b .present; points = b .points; clock = clock; held = held }
 
 -- a mode call's answer: 0 accepted, else the refusal's number
 abbrev pub numberOf : Answer → ℕ
@@ -34,8 +29,9 @@ abbrev pub answerOf : ℕ → Answer
 answerOf zero = answer.Accepted
 answerOf (suc n) = answer.Refused (suc n)
 
+-- the board after a mode call that returns r: one track and the records held may differ
 abbrev pub boardBy : Board → Answered → Board
-boardBy b r = boardAfter b (set (b .tracks) (r .at) (r .track)) (b .clock) (r .held)
+boardBy b r = boardWith b (set (b .tracks) (r .at) (r .track)) (b .present) (b .points) (r .held)
 
 abbrev pub outcomeSaid : Board → Answered → Outcome
 outcomeSaid b r = record { answer = answerOf (r .number); board = boardBy b r }

@@ -7,7 +7,7 @@ use Rattle.track.specs.Number.{naturalOf}
 use Rattle.track.specs.declared.number.Natural.the-variants.{In}
 use Prim.Native.Nat.{ℕ}
 use borrow.Author.Needs.{needs}
-use mathlib.Core.Path.{_≡_, _∙_, sym, ap}
+use mathlib.Core.Path.{_≡_, _∙_, sym}
 use mir.Facts.{toZ-ofZ}
 use native.Mathlib.Omega.{arith}
 
