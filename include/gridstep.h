@@ -6,12 +6,11 @@
  * own. A board may be copied, stored and compared field by field; bytes between fields (padding) mean nothing.
  *
  * A pointer must not be null and its memory must not overlap that of another argument; with length 0 nothing is read or
- * written through it. A bool must be 0 or 1. Any other content is allowed: what breaks 01's rules is refused 3.
+ * written through it. Any other content is allowed: what breaks 01's rules is refused 3.
  */
 #ifndef GRIDSTEP_H
 #define GRIDSTEP_H
 
-#include <stdbool.h>
 #include <stddef.h>
 #include <stdint.h>
 
@@ -35,7 +34,7 @@ enum {
 };
 
 /* A track. Its rules: min < max <= 2,000,000; min <= start < end <= max; start <= position <= end; loops 1 to 65,535;
- * passes at most the board's clock; mode 0 to 3; no action between equal modes. */
+ * passes at most the board's clock; mode 0 to 3; direction, repeat and due 0 or 1; no action between equal modes. */
 struct gridstep_track {
     uint32_t min, max;   /* bounds, + 1,000,000 */
     uint32_t start, end; /* the span walked, + 1,000,000 */
@@ -43,9 +42,9 @@ struct gridstep_track {
     uint32_t passes;     /* arrivals at the far position since the last rewinding */
     uint16_t loops;      /* passes after which the track stops, if repeat is off */
     uint8_t mode;
-    bool backward;       /* direction: 0 forward (home is start), 1 backward (home is end) */
-    bool repeat;         /* 1: never stops by itself */
-    bool due;            /* 1: the position is not yet visited */
+    uint8_t direction;   /* 0 forward (home is start), 1 backward (home is end) */
+    uint8_t repeat;      /* 1: never stops by itself */
+    uint8_t due;         /* 1: the position is not yet visited */
     uint8_t actions[16]; /* the event of a change from mode a to mode b at a * 4 + b; 0 none */
 };
 
@@ -59,7 +58,7 @@ struct gridstep_points {
     size_t count;        /* 0 to 256 */
 };
 
-/* A board. What tracks that are not present hold means nothing; their bools must be 0 or 1 all the same. */
+/* A board. What tracks that are not present hold means nothing. */
 struct gridstep_board {
     struct gridstep_track tracks[16];
     uint16_t present; /* bit i: track i is present */
@@ -143,7 +142,7 @@ struct gridstep_ending gridstep_advance(struct gridstep_board *board, int64_t co
  *   3 LogFull      ticks taken
  *   4 ClockEnd     ticks taken
  *   5 clock        clock, held
- *   6 a track      min, max, start, end, position (each + 1,000,000), passes, loops, mode, backward, repeat, due, and
+ *   6 a track      min, max, start, end, position (each + 1,000,000), passes, loops, mode, direction, repeat, due, and
  *                  the sixteen actions
  *   7 a point      track, position + 1,000,000, event, wait, command, target
  *   8 how many     the number of points

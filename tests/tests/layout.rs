@@ -17,7 +17,7 @@ fn sizes_and_offsets() {
     let aligned = [align_of::<Track>(), align_of::<Points>(), align_of::<Board>(), align_of::<Ending>()];
     assert_eq!((aligned, align_of::<Replied>()), ([4, 8, 8, 4], 8));
     let words = offsets!(Track: min max start end position passes);
-    let rest = offsets!(Track: loops mode backward repeat due actions);
+    let rest = offsets!(Track: loops mode direction repeat due actions);
     assert_eq!((words, rest), ([0, 4, 8, 12, 16, 20], [24, 26, 27, 28, 29, 30]));
     assert_eq!(offsets!(Points: keys infos count), [0, 1024, 2048]);
     assert_eq!(offsets!(Board: tracks present points clock held), [0, 768, 776, 2832, 2840]);
@@ -37,9 +37,9 @@ fn track(number: u32) -> Track {
         passes: 0x0A0B_0C00 + number,
         loops: 0xD0E0 + number as u16,
         mode: (number % 4) as u8,
-        backward: number & 1 == 1,
-        repeat: number & 2 == 2,
-        due: number & 4 == 4,
+        direction: (number & 1) as u8,
+        repeat: (number >> 1 & 1) as u8,
+        due: (number >> 2 & 1) as u8,
         actions: std::array::from_fn(cell),
     }
 }
@@ -102,8 +102,8 @@ fn fields_are_written() {
     let mut actions = [0; 16];
     (actions[1], actions[14]) = (251, 252);
     let (min, max, start, end, position) = (100_000, 1_900_000, 930_000, 1_080_000, 1_060_000);
-    let (passes, loops, mode, backward, repeat, due) = (0, 0xABCD, 1, true, true, false);
-    let expected = Track { min, max, start, end, position, passes, loops, mode, backward, repeat, due, actions };
+    let (passes, loops, mode, direction, repeat, due) = (0, 0xABCD, 1, 1, 1, 0);
+    let expected = Track { min, max, start, end, position, passes, loops, mode, direction, repeat, due, actions };
     assert_eq!((tracks[7], present, clock, held), (expected, 1 << 7, 2, 1));
     let info = 253 + 65_536 + 131_072 * 3 + 1_048_576 * 7;
     assert_eq!((points.keys[0], points.infos[0], points.count), (7 * 2_097_152 + 999_992, info, 1));

@@ -23,7 +23,7 @@ fn refuses_all(library: &Library, log: &[u8], what: &str) {
 
 type Break = fn(&mut raw::Board);
 
-const BROKEN_TRACKS: [(&str, Break); 18] = [
+const BROKEN_TRACKS: [(&str, Break); 24] = [
     ("clock", |board| board.clock = 1_000_000_001),
     ("clock, 32 bits", |board| board.clock = u32::MAX),
     ("max", |board| board.tracks[0].max = 2_000_001),
@@ -38,6 +38,12 @@ const BROKEN_TRACKS: [(&str, Break); 18] = [
     ("passes above clock", |board| board.tracks[0].passes = 1),
     ("mode 4", |board| board.tracks[0].mode = 4),
     ("mode 255", |board| board.tracks[0].mode = 255),
+    ("direction 2", |board| board.tracks[0].direction = 2),
+    ("direction 255", |board| board.tracks[0].direction = 255),
+    ("repeat 2", |board| board.tracks[0].repeat = 2),
+    ("repeat 128", |board| board.tracks[0].repeat = 128),
+    ("due 2", |board| board.tracks[0].due = 2),
+    ("due 254", |board| board.tracks[0].due = 254),
     ("diagonal 0", |board| board.tracks[0].actions[0] = 1),
     ("diagonal 1", |board| board.tracks[0].actions[5] = 255),
     ("diagonal 2", |board| board.tracks[0].actions[10] = 1),
@@ -76,6 +82,7 @@ fn broken_boards_are_refused() {
 fn alter_track(track: &mut raw::Track, clock: u32, rng: &mut Rng) {
     let near = track.start.wrapping_add(rng.between(-2, 9) as u32);
     let small: u8 = rng.pick(&[0, 1, 2, 3, 4, 5, 15, 16, 255]);
+    let flip: u8 = rng.pick(&[1, 1, 1, 2, 128]);
     match rng.between(0, 11) {
         0 => track.min = near,
         1 => track.max = rng.pick(&[near, 2_000_000, 2_000_001, u32::MAX]),
@@ -86,9 +93,9 @@ fn alter_track(track: &mut raw::Track, clock: u32, rng: &mut Rng) {
         6 => track.loops = small.into(),
         7 => track.mode = small,
         8 => track.actions[small as usize & 15] = small,
-        9 => track.backward ^= true,
-        10 => track.repeat ^= true,
-        _ => track.due ^= true,
+        9 => track.direction ^= flip,
+        10 => track.repeat ^= flip,
+        _ => track.due ^= flip,
     }
 }
 
@@ -163,7 +170,7 @@ fn odd_boards_stand() {
     let mut bench = Bench::<Library>::case_a(64);
     (bench.board.board.clock, bench.board.board.held) = (9, u64::MAX);
     let track = &mut bench.board.board.tracks[0];
-    (track.position, track.due, track.passes) = (1_000_004, false, 9);
+    (track.position, track.due, track.passes) = (1_000_004, 0, 9);
     stands(&bench.board, &bench.board.picture(), &bench.log);
     assert_eq!(bench.call(Play(99)), Refused(7));
     bench.accept(&[Clear, Play(0)]);

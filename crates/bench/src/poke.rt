@@ -68,7 +68,7 @@ fn placed(t: Track, code: u32, n: u32) -> Track {
     c
 }
 
-// Codes 41 to 44: passes, loops, mode, an action cell.
+// Codes 41 to 47: passes, loops, mode, an action cell, direction, repeat, due.
 fn counted(t: Track, code: u32, n: u32, cell: usize) -> Track {
     if Track::CELLS <= cell {
         return t;
@@ -78,7 +78,10 @@ fn counted(t: Track, code: u32, n: u32, cell: usize) -> Track {
         41 => c.passes.0 = n,
         42 => c.loops = (n % 65536) as u16,
         43 => c.mode = (n % 256) as u8,
-        _ => c.actions[cell] = (n % 256) as u8,
+        44 => c.actions[cell] = (n % 256) as u8,
+        45 => c.direction = (n % 256) as u8,
+        46 => c.repeat = (n % 256) as u8,
+        _ => c.due = (n % 256) as u8,
     }
     c
 }

@@ -32,9 +32,9 @@ noTrack =
       passes = record { 0 = 0 };
       loops = 0;
       mode = 0;
-      backward = false;
-      repeat = false;
-      due = false;
+      direction = 0;
+      repeat = 0;
+      due = 0;
       actions = [];
     }
 

@@ -95,9 +95,9 @@ trackNumbers t =
     ∷ t .passes .0
     ∷ t .loops
     ∷ t .mode
-    ∷ bit (t .backward)
-    ∷ bit (t .repeat)
-    ∷ bit (t .due)
+    ∷ t .direction
+    ∷ t .repeat
+    ∷ t .due
     ∷ t .actions
 
 abbrev pub pointNumbers : Point → List ℕ

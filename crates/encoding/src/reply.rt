@@ -65,9 +65,9 @@ fn track_head(t: Track) -> [u64; REPLY_WIDTH]
     row[6] = t.passes.0 as u64;
     row[7] = t.loops as u64;
     row[8] = t.mode as u64;
-    row[9] = bit(t.backward);
-    row[10] = bit(t.repeat);
-    row[11] = bit(t.due);
+    row[9] = t.direction as u64;
+    row[10] = t.repeat as u64;
+    row[11] = t.due as u64;
     row
 }
 

@@ -9,7 +9,7 @@ use lib.ListN.{replicate, take}
 use Rattle.track.specs.declared.number.Natural.the-variants as natural
 use Rattle.track.specs.declared.setup.Answer.the-variants.{Accepted}
 use Rattle.track.specs.declared.setup.Change.the-variants as change
-use Rattle.track.specs.Rule.{PLAYING, PAUSED, WAITING}
+use Rattle.track.specs.Rule.{PLAYING, PAUSED, WAITING, VISITED}
 use Rattle.track.specs.Number.{valueOf}
 use Rattle.track.specs.Setup.{settled}
 use Rattle.board.specs.declared.Board.{Board}
@@ -80,7 +80,7 @@ abbrev pub printed : ℕ → ℕ → ℕ → ℕ → ℕ → ℕ → ℕ → Rec
 printed clock i kind event detail position passes = recordOf clock i kind event detail (position + 1000000) passes
 
 -- all answers, and at the end the mode, the due flag and the position of track 0
-abbrev pub tracked : All Reply (World Board) → List Reply × ℕ × Bool × ℤ
+abbrev pub tracked : All Reply (World Board) → List Reply × ℕ × ℕ × ℤ
 tracked r =
     let t = trackAt (r .last .board .tracks) 0 in
     (r .answers, t .mode, t .due, valueOf (t .position))
@@ -176,10 +176,10 @@ pub record Cards : Type 0 where
   pub f : ran (setUpA ++ (jump 0 6 ∷ jump 0 5 ∷ [])) (fresh 0) .answers ≡ replicate 8 accepted ++ (refused 3 ∷ accepted ∷ [])
   -- G: jump while WAITING is 2.
   pub g : tracked (ran (setUpA ++ (play 0 ∷ advance 10 ∷ jump 0 5 ∷ [])) (fresh 48))
-      ≡ (replicate 9 accepted ++ (done 10 ∷ refused 2 ∷ []), WAITING, false, pos 5)
+      ≡ (replicate 9 accepted ++ (done 10 ∷ refused 2 ∷ []), WAITING, VISITED, pos 5)
   -- H: span 2 to 5, paused visited at 4, turned backward, resumed: next location 3
-  pub h : (tracked (ran callsH (fresh 0)) ≡ (replicate 4 accepted ++ (done 3 ∷ accepted ∷ []), PAUSED, false, pos 4))
-      × (tracked (ran (dir 0 1 ∷ resume 0 ∷ advance 1 ∷ []) (ran callsH (fresh 0) .last)) ≡ (accepted ∷ accepted ∷ done 1 ∷ [], PLAYING, false, pos 3))
+  pub h : (tracked (ran callsH (fresh 0)) ≡ (replicate 4 accepted ++ (done 3 ∷ accepted ∷ []), PAUSED, VISITED, pos 4))
+      × (tracked (ran (dir 0 1 ∷ resume 0 ∷ advance 1 ∷ []) (ran callsH (fresh 0) .last)) ≡ (accepted ∷ accepted ∷ done 1 ∷ [], PLAYING, VISITED, pos 3))
   -- I: start 4 beside end 5 accepted, start 5 refused 3
   pub i : ran (setUpA ++ (start 0 4 ∷ start 0 5 ∷ [])) (fresh 0) .answers ≡ replicate 9 accepted ++ (refused 3 ∷ [])
   -- J: point at 10 in bounds 0 to 10 accepted, at 11 refused 3

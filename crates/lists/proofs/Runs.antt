@@ -1,7 +1,7 @@
 -- A list of calls on a board and a log, computed: what the rule says that they answer and leave.
 use Prim.Native.Nat.{ℕ}
 use mathlib.Core.List.{List}
-use Rattle.track.specs.Rule.{newTrack, entered, every, orderedTest, diagonalTest, validTest, soundTest}
+use Rattle.track.specs.Rule.{newTrack, entered, every, orderedTest, eventsTest, cellsTest, validTest, soundTest}
 use Rattle.track.specs.Number.{coordinateOf, within, naturalOf, valueOf}
 use Rattle.track.specs.Grid.{gridOf}
 use Rattle.track.specs.Walk.{arrival, passesAt, stops, visited, step}
@@ -23,7 +23,7 @@ use Rattle.lists.specs.Lists.{cutUp}
 
 -- to unfold it is to compute with the rule: all its definitions but those of drop point, clear and the queries
 unfoldable pub ran : List Call → World Board → All Reply (World Board)
-unfolding newTrack entered every orderedTest diagonalTest validTest soundTest coordinateOf within naturalOf valueOf gridOf arrival passesAt stops visited step settled permits startSet endSet loopsSet repeatSet directionSet actionSet jumpTo setBy changedBy le twosOf recordBytes logBytes keyOf infoOf pointOf hasKey firstFrom insertAt insertRow noPoints infoAt replaced added storedIn isPresent tracksTest placeTest deedTest pointsTest unbrokenParts freshBoard foundIn setUp addTrack drawnFrom setPoint membersFrom waits pointRecords changeRecords playingWord stepRecords stepMember stepAll commandRecords commanded runCommand runAll tickFrom changesTo decided modeRuling ticks advance haltOf barOf saysOf makesOf countOf
+unfolding newTrack entered every orderedTest eventsTest cellsTest validTest soundTest coordinateOf within naturalOf valueOf gridOf arrival passesAt stops visited step settled permits startSet endSet loopsSet repeatSet directionSet actionSet jumpTo setBy changedBy le twosOf recordBytes logBytes keyOf infoOf pointOf hasKey firstFrom insertAt insertRow noPoints infoAt replaced added storedIn isPresent tracksTest placeTest deedTest pointsTest unbrokenParts freshBoard foundIn setUp addTrack drawnFrom setPoint membersFrom waits pointRecords changeRecords playingWord stepRecords stepMember stepAll commandRecords commanded runCommand runAll tickFrom changesTo decided modeRuling ticks advance haltOf barOf saysOf makesOf countOf
 ran calls w = performs (perform gridstep) (cutUp calls) w
 
 -- what is seen of it: all answers, and at the end the clock, the number of records held and the log

@@ -9,7 +9,7 @@ use native.Mathlib.Omega.{arith}
 use borrow.Author.Tests.{le-leb, lt-leb}
 use Rattle.track.specs.declared.Track.{Track}
 use Rattle.track.specs.declared.Coordinate.{Coordinate}
-use Rattle.track.specs.Rule.{clockEnd, Valid, home}
+use Rattle.track.specs.Rule.{clockEnd, backward, Valid, home}
 use Rattle.track.specs.Walk.{arrival, stops}
 use Rattle.track.specs.Leap.{span, phase, place, next, leap, running, stepsTo}
 use Rattle.track.proofs.Tests.{refuted}
@@ -146,28 +146,28 @@ pub record Sought (ks ds : List ℕ) (t : Track) : Type 0 where
 
 pub record Looked (ks ds : List ℕ) (i : ℕ) (t : Track) (l d : ℕ) (r : Near) : Type 0 where
   pub info : d ≡ infoAt (key i l) ks ds
-  pub near : r ≡ nearest (t .backward) i l (t .start .0) (t .end .0) ks
+  pub near : r ≡ nearest (backward t) i l (t .start .0) (t .end .0) ks
 
 module _ {ks ds : List ℕ} {t : Track} (s : Sought ks ds t) where
   v : Valid t
   v = s .valid
 
   home-place : home t ≡ place t 0
-  home-place = go (t .backward) refl
+  home-place = go (backward t) refl
     where
-      go : (b : Bool) → t .backward ≡ b → home t ≡ place t 0
+      go : (b : Bool) → backward t ≡ b → home t ≡ place t 0
       go true e = simp e (omega arith)
       go false e = simp e (omega arith)
 
   module _ {i l d : ℕ} {near : Near} (f : Looked ks ds i t l d near) (p : ℕ) (ep : p < span t) (el : l ≡ place t p) where
-    near-is : Nearest (t .backward) i l (t .start .0) (t .end .0) ks near
-    near-is = rw (f .near) (nearest-is (t .backward) i l (t .start .0) (t .end .0) ks (s .ascending))
+    near-is : Nearest (backward t) i l (t .start .0) (t .end .0) ks near
+    near-is = rw (f .near) (nearest-is (backward t) i l (t .start .0) (t .end .0) ks (s .ascending))
 
-    near-at : (c : Coordinate) → near ≡ At c → Onward ks i (t .start .0) (t .end .0) (t .backward) p (c .0)
-    near-at = onward ks i (t .start .0) (t .end .0) (v .ordered .span) near (t .backward) p l (omega arith) el near-is
+    near-at : (c : Coordinate) → near ≡ At c → Onward ks i (t .start .0) (t .end .0) (backward t) p (c .0)
+    near-at = onward ks i (t .start .0) (t .end .0) (v .ordered .span) near (backward t) p l (omega arith) el near-is
 
     near-none : near ≡ Nothing → (q : ℕ) → p < q → q < span t → at ks i t v q ≡ false
-    near-none = onward-none ks i (t .start .0) (t .end .0) (v .ordered .span) near (t .backward) p l (omega arith) el near-is
+    near-none = onward-none ks i (t .start .0) (t .end .0) (v .ordered .span) near (backward t) p l (omega arith) el near-is
 
   module _ {i l d : ℕ} {near : Near} (f : Looked ks ds i t l d near) (el : l ≡ arrival t) where
     at-next : l ≡ place t (next t)
@@ -182,7 +182,7 @@ module _ {ks ds : List ℕ} {t : Track} (s : Sought ks ds t) where
       bare q e =
           ap (at ks i t v) e ∙ ap (λ (x : ℕ). hasKey (key i x) ks) (sym at-next) ∙ info-zero (key i l) ks ds (s .telling) (f .info) z
 
-      near-on : (c : Coordinate) → near ≡ At c → Onward ks i (t .start .0) (t .end .0) (t .backward) (next t) (c .0)
+      near-on : (c : Coordinate) → near ≡ At c → Onward ks i (t .start .0) (t .end .0) (backward t) (next t) (c .0)
       near-on = near-at f (next t) (next-small t v) at-next
 
       -- the point found lies on the span
@@ -222,9 +222,9 @@ module _ {ks ds : List ℕ} {t : Track} (s : Sought ks ds t) where
           at-home = eh ∙ home-place
 
           home-first : phase t h ≡ 0
-          home-first = go (t .backward) refl
+          home-first = go (backward t) refl
             where
-              go : (b : Bool) → t .backward ≡ b → phase t h ≡ 0
+              go : (b : Bool) → backward t ≡ b → phase t h ≡ 0
               go true e = simp e (omega (arith, simp e at eh))
               go false e = simp e (omega (arith, simp e at eh))
 
@@ -242,7 +242,7 @@ module _ {ks ds : List ℕ} {t : Track} (s : Sought ks ds t) where
                 ∙ ap (λ (x : ℕ). hasKey (key i x) ks) (sym at-home)
                 ∙ info-zero (key i h) ks ds (s .telling) (f′ .info) z′
 
-            home-on : (c : Coordinate) → near′ ≡ At c → Onward ks i (t .start .0) (t .end .0) (t .backward) 0 (c .0)
+            home-on : (c : Coordinate) → near′ ≡ At c → Onward ks i (t .start .0) (t .end .0) (backward t) 0 (c .0)
             home-on = near-at f′ 0 (omega arith) at-home
 
             -- home has none either; the point found from there lies on the span and is the first on the way

@@ -47,7 +47,7 @@ step-quiet t v s = rw s (sym (leap-suc t v 0 ∙ ap (λ (u : Track). visited u (
 -- a track that stays PLAYING writes no mode change
 changes-none : (clock i l passes : ℕ) (t : Track) {m : ℕ} → Valid t → t .mode ≡ PLAYING → m ≡ PLAYING → changeRecords clock i t m l passes ≡ []
 unfolding changeRecords
-changes-none clock i l passes t v e em = rw (e, em) (rw (v .diagonal .playing) refl)
+changes-none clock i l passes t v e em = rw (e, em) (rw (v .cells .playing) refl)
 
 module _ (ks ds : List ℕ) (clock : ℕ) where
   -- what a step of track t, number i, leaves of a stage

@@ -23,7 +23,7 @@ fn to_point<'a>(t: Track, track: u32, keys: &'a [u32], infos: &'a [u32], n: usiz
     requires { ⌜ Telling (take n (now keys)) (take n (now infos)) ⌝ }
     ensures { λ r. ⌜ ToPoint (take n (now (keys .entry))) track t (r .0) ⌝ }
 {
-    let backward = t.backward;
+    let backward = t.direction == Track::BACKWARD;
     let start = t.start;
     let end = t.end;
     let l = t.arrival();

@@ -7,7 +7,7 @@ use native.Mathlib.Omega.{arith}
 use lib.Dec.{eqb}
 use borrow.Author.Tests.{eqb-true, eqb-false, eq-eqb, ne-eqb}
 use Rattle.track.specs.declared.Track.{Track}
-use Rattle.track.specs.Rule.{PLAYING, STOPPED, WAITING, Valid, home, far, moved, rewound, stopped, entered}
+use Rattle.track.specs.Rule.{PLAYING, STOPPED, WAITING, BACKWARD, VISITED, DUE, backward, isDue, Valid, home, far, moved, rewound, stopped, entered}
 use Rattle.track.specs.Walk.{arrival, passesAt, stops, visited, step}
 use Rattle.track.specs.Leap.{span, place, next}
 use Rattle.track.proofs.Tests.{cond-cases}
@@ -15,45 +15,45 @@ use Rattle.track.proofs.Cycle.{near-mod, near-div, last-mod, last-div}
 
 -- ---- where a step arrives, case by case
 module _ (t : Track) where
-  pub arrival-due : t .due ≡ true → t .position .0 ≡ arrival t
+  pub arrival-due : t .due ≡ DUE → t .position .0 ≡ arrival t
   unfolding arrival
-  arrival-due d = simp d
+  arrival-due d = simp (eq-eqb _ _ d)
 
-  module _ (d : t .due ≡ false) where
-    pub arrival-end : t .backward ≡ true → t .position .0 ≡ t .start .0 → t .end .0 ≡ arrival t
+  module _ (d : t .due ≡ DUE → ⊥) where
+    pub arrival-end : t .direction ≡ BACKWARD → t .position .0 ≡ t .start .0 → t .end .0 ≡ arrival t
     unfolding arrival
-    arrival-end b e = simp (d, b, eq-eqb _ _ e)
+    arrival-end b e = simp (ne-eqb _ _ d, eq-eqb _ _ b, eq-eqb _ _ e)
 
-    pub arrival-down : t .backward ≡ true → (t .position .0 ≡ t .start .0 → ⊥) → t .position .0 - 1 ≡ arrival t
+    pub arrival-down : t .direction ≡ BACKWARD → (t .position .0 ≡ t .start .0 → ⊥) → t .position .0 - 1 ≡ arrival t
     unfolding arrival
-    arrival-down b e = simp (d, b, ne-eqb _ _ e)
+    arrival-down b e = simp (ne-eqb _ _ d, eq-eqb _ _ b, ne-eqb _ _ e)
 
-    pub arrival-start : t .backward ≡ false → t .position .0 ≡ t .end .0 → t .start .0 ≡ arrival t
+    pub arrival-start : (t .direction ≡ BACKWARD → ⊥) → t .position .0 ≡ t .end .0 → t .start .0 ≡ arrival t
     unfolding arrival
-    arrival-start b e = simp (d, b, eq-eqb _ _ e)
+    arrival-start b e = simp (ne-eqb _ _ d, ne-eqb _ _ b, eq-eqb _ _ e)
 
-    pub arrival-up : t .backward ≡ false → (t .position .0 ≡ t .end .0 → ⊥) → t .position .0 + 1 ≡ arrival t
+    pub arrival-up : (t .direction ≡ BACKWARD → ⊥) → (t .position .0 ≡ t .end .0 → ⊥) → t .position .0 + 1 ≡ arrival t
     unfolding arrival
-    arrival-up b e = simp (d, b, ne-eqb _ _ e)
+    arrival-up b e = simp (ne-eqb _ _ d, ne-eqb _ _ b, ne-eqb _ _ e)
 
 -- home and far lie in the span, and are two locations
 module _ (t : Track) (v : Valid t) where
   pub home-inside : (t .start .0 ≤ home t) × (home t ≤ t .end .0)
-  home-inside = cond-cases (λ (l : ℕ). (t .start .0 ≤ l) × (l ≤ t .end .0)) (t .backward) (λ _. omega arith) (λ _. omega arith)
+  home-inside = cond-cases (λ (l : ℕ). (t .start .0 ≤ l) × (l ≤ t .end .0)) (backward t) (λ _. omega arith) (λ _. omega arith)
 
   pub home-far : home t ≡ far t → ⊥
-  home-far e = go (t .backward) refl
+  home-far e = go (backward t) refl
     where
-      go : (b : Bool) → t .backward ≡ b → ⊥
+      go : (b : Bool) → backward t ≡ b → ⊥
       go true eb = omega (arith, simp eb at e)
       go false eb = omega (arith, simp eb at e)
 
 module _ (t : Track) (v : Valid t) where
   pub arrival-inside : (t .start .0 ≤ arrival t) × (arrival t ≤ t .end .0)
   unfolding arrival
-  arrival-inside = go (t .due) (t .backward) refl refl
+  arrival-inside = go (isDue t) (backward t) refl refl
     where
-      go : (d b : Bool) → t .due ≡ d → t .backward ≡ b → (t .start .0 ≤ arrival t) × (arrival t ≤ t .end .0)
+      go : (d b : Bool) → isDue t ≡ d → backward t ≡ b → (t .start .0 ≤ arrival t) × (arrival t ≤ t .end .0)
       go true b ed eb = simp ed (omega arith)
       go false true ed eb =
           simp (ed, eb)
@@ -68,22 +68,22 @@ module _ (t : Track) (v : Valid t) where
   pub next-small : next t < span t
   unfolding next
   next-small =
-      cond-cases (λ (k : ℕ). k < span t) (t .backward) (λ h. omega (arith, arrival-inside)) (λ h. omega (arith, arrival-inside))
+      cond-cases (λ (k : ℕ). k < span t) (backward t) (λ h. omega (arith, arrival-inside)) (λ h. omega (arith, arrival-inside))
 
   pub place-next : place t (next t) ≡ arrival t
   unfolding next
-  place-next = go (t .backward) refl
+  place-next = go (backward t) refl
     where
-      go : (b : Bool) → t .backward ≡ b → place t (next t) ≡ arrival t
+      go : (b : Bool) → backward t ≡ b → place t (next t) ≡ arrival t
       go true eb = simp eb (omega (arith, arrival-inside))
       go false eb = simp eb (omega (arith, arrival-inside))
 
   -- the passes after a step, where x counts the steps round the span from some K on
   pub passes-next : (K x : ℕ) → next t ≡ x % span t → t .passes .0 ≡ K + x / span t → passesAt t (arrival t) ≡ K + (x + 1) / span t
   unfolding passesAt next
-  passes-next K x e p = go (t .backward) refl
+  passes-next K x e p = go (backward t) refl
     where
-      go : (b : Bool) → t .backward ≡ b → passesAt t (arrival t) ≡ K + (x + 1) / span t
+      go : (b : Bool) → backward t ≡ b → passesAt t (arrival t) ≡ K + (x + 1) / span t
       go true eb =
           simp eb
           (cond-cases (λ (k : ℕ). k ≡ K + (x + 1) / span t) (eqb (arrival t) (t .start .0))
@@ -96,14 +96,14 @@ module _ (t : Track) (v : Valid t) where
           (λ h. omega (arith, arrival-inside, near-div x {n = span t} (omega (arith, simp eb at e, arrival-inside, eqb-false)))))
 
   -- the distance after that of x, of a visited track
-  pub next-visited : (x : ℕ) → t .due ≡ false → t .position .0 ≡ place t (x % span t) → next t ≡ (x + 1) % span t
+  pub next-visited : (x : ℕ) → isDue t ≡ false → t .position .0 ≡ place t (x % span t) → next t ≡ (x + 1) % span t
   unfolding next arrival
-  next-visited x ed e = go (t .backward) refl
+  next-visited x ed e = go (backward t) refl
     where
       small : x % span t < span t
       small = mod-lt x (omega arith)
 
-      go : (b : Bool) → t .backward ≡ b → next t ≡ (x + 1) % span t
+      go : (b : Bool) → backward t ≡ b → next t ≡ (x + 1) % span t
       go true eb =
           simp (ed, eb)
           (cond-cases (λ (l : ℕ). t .end .0 - l ≡ (x + 1) % span t) (eqb (t .position .0) (t .start .0))
@@ -117,26 +117,35 @@ module _ (t : Track) (v : Valid t) where
 
   pub place-inside : (k : ℕ) → k < span t → (t .start .0 ≤ place t k) × (place t k ≤ t .end .0)
   place-inside k h =
-      cond-cases (λ (l : ℕ). (t .start .0 ≤ l) × (l ≤ t .end .0)) (t .backward) (λ _. omega arith) (λ _. omega arith)
+      cond-cases (λ (l : ℕ). (t .start .0 ≤ l) × (l ≤ t .end .0)) (backward t) (λ _. omega arith) (λ _. omega arith)
 
 -- ---- what a step keeps
 module _ (t : Track) (v : Valid t) where
-  pub moved-valid : (m l q : ℕ) (d : Bool) → m ≤ WAITING → (t .start .0 ≤ l) × (l ≤ t .end .0) → Valid (moved t m l q d)
-  moved-valid m l q d hm hl = omega arith
+  pub moved-valid : (m l q d : ℕ) → m ≤ WAITING → d ≤ DUE → (t .start .0 ≤ l) × (l ≤ t .end .0) → Valid (moved t m l q d)
+  moved-valid m l q d hm hd hl =
+      record {
+        ordered = omega arith;
+        loops = v .loops;
+        mode = hm;
+        direction = v .direction;
+        repeat = v .repeat;
+        due = hd;
+        cells = v .cells;
+      }
 
   pub stopped-valid : Valid (stopped t)
-  stopped-valid = moved-valid STOPPED (home t) 0 true (omega arith) (home-inside t v)
+  stopped-valid = moved-valid STOPPED (home t) 0 DUE (omega arith) (omega arith) (home-inside t v)
 
   pub entered-valid : (m : ℕ) → m ≤ WAITING → Valid (entered t m)
   unfolding entered
   entered-valid m h =
-      cond-cases Valid (eqb m STOPPED) (λ _. stopped-valid) (λ _. moved-valid m (t .position .0) (t .passes .0) (t .due) h (omega arith))
+      cond-cases Valid (eqb m STOPPED) (λ _. stopped-valid) (λ _. moved-valid m (t .position .0) (t .passes .0) (t .due) h (v .due) (omega arith))
 
   pub step-valid : (w : Bool) → Valid (step t w)
   unfolding step visited
   step-valid w =
       cond-cases Valid (stops t) (λ h. stopped-valid)
-      (λ h. moved-valid _ _ _ _ (cond-cases (λ (m : ℕ). m ≤ WAITING) w (λ _. omega arith) (λ _. v .mode)) (arrival-inside t v))
+      (λ h. moved-valid _ _ _ _ (cond-cases (λ (m : ℕ). m ≤ WAITING) w (λ _. omega arith) (λ _. v .mode)) (omega arith) (arrival-inside t v))
 
 -- passes grow by at most 1 in a step, and never by a change of mode
 pub step-passes : (t : Track) (w : Bool) → step t w .passes .0 ≤ t .passes .0 + 1
@@ -158,11 +167,11 @@ unfolding arrival entered
 play-home t = refl
 
 -- nor reported again after resume with due not set anew: a visited track never arrives where it stands
-pub resume-leaves : (t : Track) → Valid t → t .due ≡ false → arrival (entered t PLAYING) ≡ t .position .0 → ⊥
+pub resume-leaves : (t : Track) → Valid t → isDue t ≡ false → arrival (entered t PLAYING) ≡ t .position .0 → ⊥
 unfolding arrival entered
-resume-leaves t v d e = go (t .backward) refl
+resume-leaves t v d e = go (backward t) refl
   where
-    go : (b : Bool) → t .backward ≡ b → ⊥
+    go : (b : Bool) → backward t ≡ b → ⊥
     go true eb =
         cond-cases (λ (l : ℕ). l ≡ t .position .0 → ⊥) (eqb (t .position .0) (t .start .0)) (λ h k. omega (arith, eqb-true)) (λ h k. omega (arith, eqb-false))
         (simp (d, eb) at e)
@@ -171,12 +180,12 @@ resume-leaves t v d e = go (t .backward) refl
         (simp (d, eb) at e)
 
 -- a step that does not stop the track clears due
-pub step-visits : (t : Track) (w : Bool) → stops t ≡ false → step t w .due ≡ false
+pub step-visits : (t : Track) (w : Bool) → stops t ≡ false → step t w .due ≡ VISITED
 unfolding step visited
 step-visits t w s = simp s
 
 -- going from far to home takes a tick: from far a visited track arrives at home, one step, and no pass is counted there
-pub far-home : (t : Track) → Valid t → t .due ≡ false → t .position .0 ≡ far t →
+pub far-home : (t : Track) → Valid t → isDue t ≡ false → t .position .0 ≡ far t →
     (arrival t ≡ home t) × (passesAt t (arrival t) ≡ t .passes .0)
 unfolding arrival passesAt
 far-home t v d e =

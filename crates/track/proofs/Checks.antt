@@ -1,16 +1,22 @@
 -- The tests of a track's ranges and rules say whether the track keeps them.
-use Prim.Native.Nat.{ℕ, _≤_, _<_}
-use mathlib.Core.Path.{_≡_, sym, _∙_}
+use Prim.Native.Nat.{ℕ, zero, suc, _≤_, _<_}
+use mathlib.Core.Path.{_≡_, refl, sym, _∙_}
 use mathlib.Core.Bool.{Bool, true, false, and-true, and-false}
 use mathlib.Core.List.{List, [], _∷_}
 use lib.Dec.{ltb, leb, eqb}
-use lib.ListN.{getD}
+use lib.ListN.{length, getD}
 use native.Mathlib.Omega.{arith}
+use mir.Syntax.{w8}
+use mir.Val.{Val}
+use denote.Shadow.{shadow}
+use denote.Laws.{Is}
+use denote.Plain.{UInt}
+use denote.Array.{Array, each}
 use borrow.Author.Tests.{eqb-true, ltb-true, leb-true, lt-ltb, le-leb, lt-leb, eq-eqb}
 use Rattle.track.specs.declared.Track.{Track}
 use Rattle.track.specs.declared.Ticks.{Ticks}
-use Rattle.track.specs.Rule.{every, Ordered, orderedTest, Diagonal, diagonalTest, Valid, validTest, Sound, soundTest, WAITING, coordinateLast}
-use Rattle.track.proofs.Tests.{every-of, every-is, both}
+use Rattle.track.specs.Rule.{every, Ordered, orderedTest, Cells, eventsTest, cellsTest, Valid, validTest, Sound, soundTest, WAITING, BACKWARD, REPEATING, DUE, loopsMost, cellCount, cellMost, coordinateLast}
+use Rattle.track.proofs.Tests.{every-of, every-is, both, both-is}
 
 module _ (min max start end position : ℕ) where
   tests : List Bool
@@ -24,25 +30,78 @@ module _ (min max start end position : ℕ) where
   unfolding orderedTest tests
   ordered-is o = sym (every-is tests (omega (arith, lt-ltb, le-leb)))
 
+-- every event is at most 255 exactly if the test says so
+pub events-of : (l : List ℕ) → eventsTest l ≡ true → (k : ℕ) → getD l k 0 ≤ cellMost
+unfolding eventsTest
+events-of [] h k = omega arith
+events-of (e ∷ l) h zero = leb-true _ _ (both (leb e cellMost) (eventsTest l) h .0)
+events-of (e ∷ l) h (suc k) = events-of l (both (leb e cellMost) (eventsTest l) h .1) k
+
+pub events-is : (l : List ℕ) → ((k : ℕ) → getD l k 0 ≤ cellMost) → eventsTest l ≡ true
+unfolding eventsTest
+events-is [] h = refl
+events-is (e ∷ l) h = both-is (le-leb e cellMost (h zero)) (events-is l (λ k. h (suc k)))
+
+-- what the type `[u8; 16]` says of its values
+bytes-fit : (l : List ℕ) (us : List Val) → shadow (each ℕ (UInt w8 .own) l us) → (k : ℕ) → getD l k 0 ≤ cellMost
+bytes-fit [] [] s k = omega arith
+bytes-fit [] (u ∷ us) s k = absurd s
+bytes-fit (e ∷ l) [] s k = absurd s
+bytes-fit (e ∷ l) (u ∷ us) s zero = omega (arith, s .0 .1)
+bytes-fit (e ∷ l) (u ∷ us) s (suc k) = bytes-fit l us (s .1) k
+
+pub cells-number : (l : List ℕ) (vs : List Val) → Is (Array (UInt w8) cellCount) l vs → length l ≡ cellCount
+cells-number l vs p = p .1 .0 .1
+
+pub cells-event : (l : List ℕ) (vs : List Val) → Is (Array (UInt w8) cellCount) l vs → (k : ℕ) → getD l k 0 ≤ cellMost
+cells-event l vs p = bytes-fit l (p .0) (p .1 .1)
+
 module _ (cells : List ℕ) where
-  zeros : List Bool
-  zeros = eqb (getD cells 0 0) 0 ∷ eqb (getD cells 5 0) 0 ∷ eqb (getD cells 10 0) 0 ∷ eqb (getD cells 15 0) 0 ∷ []
+  sixteen : List Bool
+  sixteen =
+      eqb (length cells) cellCount
+      ∷ eventsTest cells
+      ∷ eqb (getD cells 0 0) 0
+      ∷ eqb (getD cells 5 0) 0
+      ∷ eqb (getD cells 10 0) 0
+      ∷ eqb (getD cells 15 0) 0
+      ∷ []
 
-  pub diagonal-of : diagonalTest cells ≡ true → Diagonal cells
-  unfolding diagonalTest zeros
-  diagonal-of h = let e = every-of zeros h in omega (arith, eqb-true)
+  pub cells-of : cellsTest cells ≡ true → Cells cells
+  unfolding cellsTest sixteen
+  cells-of h =
+      let e = every-of sixteen h in
+      record {
+        number = eqb-true _ _ (e .0);
+        event = events-of cells (e .1 .0);
+        stopped = eqb-true _ _ (e .1 .1 .0);
+        playing = eqb-true _ _ (e .1 .1 .1 .0);
+        paused = eqb-true _ _ (e .1 .1 .1 .1 .0);
+        waiting = eqb-true _ _ (e .1 .1 .1 .1 .1 .0);
+      }
 
-  pub diagonal-is : Diagonal cells → true ≡ diagonalTest cells
-  unfolding diagonalTest zeros
-  diagonal-is d = sym (every-is zeros (omega (arith, eq-eqb)))
+  pub cells-is : Cells cells → true ≡ cellsTest cells
+  unfolding cellsTest sixteen
+  cells-is d =
+      sym (every-is sixteen (
+        eq-eqb _ _ (d .number),
+        (
+          events-is cells (d .event),
+          (eq-eqb _ _ (d .stopped), (eq-eqb _ _ (d .playing), (eq-eqb _ _ (d .paused), (eq-eqb _ _ (d .waiting), tt)))),
+        ),
+      ))
 
 module _ (t : Track) where
   rules : List Bool
   rules =
       orderedTest (t .min .0) (t .max .0) (t .start .0) (t .end .0) (t .position .0)
       ∷ leb 1 (t .loops)
+      ∷ leb (t .loops) loopsMost
       ∷ leb (t .mode) WAITING
-      ∷ diagonalTest (t .actions)
+      ∷ leb (t .direction) BACKWARD
+      ∷ leb (t .repeat) REPEATING
+      ∷ leb (t .due) DUE
+      ∷ cellsTest (t .actions)
       ∷ []
 
   pub valid-of : validTest t ≡ true → Valid t
@@ -51,16 +110,30 @@ module _ (t : Track) where
       let e = every-of rules h in
       record {
         ordered = ordered-of _ _ _ _ _ (e .0);
-        loops = omega (arith, leb-true);
-        mode = omega (arith, leb-true);
-        diagonal = diagonal-of _ (e .1 .1 .1 .0);
+        loops = (leb-true _ _ (e .1 .0), leb-true _ _ (e .1 .1 .0));
+        mode = leb-true _ _ (e .1 .1 .1 .0);
+        direction = leb-true _ _ (e .1 .1 .1 .1 .0);
+        repeat = leb-true _ _ (e .1 .1 .1 .1 .1 .0);
+        due = leb-true _ _ (e .1 .1 .1 .1 .1 .1 .0);
+        cells = cells-of _ (e .1 .1 .1 .1 .1 .1 .1 .0);
       }
 
   pub valid-is : Valid t → true ≡ validTest t
   unfolding validTest rules
   valid-is v =
-      sym (every-is rules
-      (sym (ordered-is _ _ _ _ _ (v .ordered)), (le-leb _ _ (v .loops), (le-leb _ _ (v .mode), (sym (diagonal-is _ (v .diagonal)), tt)))))
+      sym (every-is rules (
+        sym (ordered-is _ _ _ _ _ (v .ordered)),
+        (
+          le-leb _ _ (v .loops .0),
+          (
+            le-leb _ _ (v .loops .1),
+            (
+              le-leb _ _ (v .mode),
+              (le-leb _ _ (v .direction), (le-leb _ _ (v .repeat), (le-leb _ _ (v .due), (sym (cells-is _ (v .cells)), tt)))),
+            ),
+          ),
+        ),
+      ))
 
   pub sound-of : {clock : Ticks} → soundTest t clock ≡ true → Sound t clock
   unfolding soundTest
@@ -77,10 +150,12 @@ module _ (t : Track) where
   unfolding validTest every
   valid-not-ordered h = simp h
 
-  pub valid-diagonal : orderedTest (t .min .0) (t .max .0) (t .start .0) (t .end .0) (t .position .0) ≡ true →
-      1 ≤ t .loops → t .mode ≤ WAITING → diagonalTest (t .actions) ≡ validTest t
+  pub valid-cells : {o r : Bool} → o ≡ orderedTest (t .min .0) (t .max .0) (t .start .0) (t .end .0) (t .position .0) → o ≡ true →
+      (1 ≤ t .loops) × (t .loops ≤ loopsMost) → t .mode ≤ WAITING → t .direction ≤ BACKWARD → t .repeat ≤ REPEATING → t .due ≤ DUE →
+      r ≡ cellsTest (t .actions) → r ≡ validTest t
   unfolding validTest every
-  valid-diagonal h l m = simp (h, le-leb _ _ l, le-leb _ _ m, and-true)
+  valid-cells e h l m d p u q =
+      q ∙ simp (← e, h, le-leb _ _ (l .0), le-leb _ _ (l .1), le-leb _ _ m, le-leb _ _ d, le-leb _ _ p, le-leb _ _ u, and-true)
 
   pub sound-late : {clock : Ticks} → clock .0 < t .passes .0 → false ≡ soundTest t clock
   unfolding soundTest

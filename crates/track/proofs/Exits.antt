@@ -9,7 +9,7 @@ use borrow.Author.Tests.{eq-eqb, ne-eqb, le-leb, lt-leb}
 use Rattle.track.specs.declared.Track.{Track}
 use Rattle.track.specs.declared.setup.Change.{Change}
 use Rattle.track.specs.declared.setup.Changed.{Changed}
-use Rattle.track.specs.Rule.{STOPPED, PAUSED, WAITING, clockEnd, Valid, home, far, moved, rewound, stopped, entered}
+use Rattle.track.specs.Rule.{STOPPED, PAUSED, WAITING, BACKWARD, REPEATING, VISITED, DUE, clockEnd, Valid, home, far, moved, rewound, stopped, entered}
 use Rattle.track.specs.Walk.{arrival, passesAt, stops, visited, step}
 use Rattle.track.specs.Leap.{span, phase, place, next, leap, stepsTo, stopStep, running}
 use Rattle.track.specs.Setup.{refused, settled, permits, setBy, changedBy}
@@ -17,11 +17,11 @@ use Rattle.track.proofs.Leaps.{leap-zero}
 
 module _ (t : Track) where
   -- rewound, entered
-  pub rewound-is : {h : ℕ} {r : Track} → h ≡ home t → r ≡ moved t (t .mode) h 0 true → r ≡ rewound t
-  rewound-is e q = q ∙ ap (λ (h : ℕ). moved t (t .mode) h 0 true) e
+  pub rewound-is : {h : ℕ} {r : Track} → h ≡ home t → r ≡ moved t (t .mode) h 0 DUE → r ≡ rewound t
+  rewound-is e q = q ∙ ap (λ (h : ℕ). moved t (t .mode) h 0 DUE) e
 
-  pub stopped-is : {m h : ℕ} {r : Track} → m ≡ STOPPED → h ≡ home t → r ≡ moved t m h 0 true → r ≡ stopped t
-  stopped-is em e q = q ∙ ap₂ (λ (m h : ℕ). moved t m h 0 true) em e
+  pub stopped-is : {m h : ℕ} {r : Track} → m ≡ STOPPED → h ≡ home t → r ≡ moved t m h 0 DUE → r ≡ stopped t
+  stopped-is em e q = q ∙ ap₂ (λ (m h : ℕ). moved t m h 0 DUE) em e
 
   pub entered-stops : {m : ℕ} {r : Track} → m ≡ STOPPED → r ≡ stopped t → r ≡ entered t m
   unfolding entered
@@ -45,13 +45,13 @@ module _ (t : Track) where
   unfolding stops
   stops-near a e h = simp (ne-eqb (arrival t) (far t) (λ k. h (a ∙ k ∙ sym e)))
 
-  pub stops-repeat : t .repeat ≡ true → false ≡ stops t
+  pub stops-repeat : t .repeat ≡ REPEATING → false ≡ stops t
   unfolding stops
-  stops-repeat r = simp (r, and-false)
+  stops-repeat r = simp (eq-eqb _ _ r, and-false)
 
-  pub stops-last : {l f k : ℕ} → l ≡ arrival t → f ≡ far t → k ≡ passesAt t l → l ≡ f → t .repeat ≡ false → leb (t .loops) k ≡ stops t
+  pub stops-last : {l f k : ℕ} → l ≡ arrival t → f ≡ far t → k ≡ passesAt t l → l ≡ f → (t .repeat ≡ REPEATING → ⊥) → leb (t .loops) k ≡ stops t
   unfolding stops
-  stops-last a e p h r = simp (eq-eqb (arrival t) (far t) (sym a ∙ h ∙ e), r, p, a)
+  stops-last a e p h r = simp (eq-eqb (arrival t) (far t) (sym a ∙ h ∙ e), ne-eqb _ _ r, p, a)
 
   -- step
   pub step-stops : (w : Bool) {b : Bool} {r : Track} → b ≡ stops t → b ≡ true → r ≡ stopped t → r ≡ step t w
@@ -59,33 +59,46 @@ module _ (t : Track) where
   step-stops w s h e = simp (← s, h) e
 
   module _ (w : Bool) {b : Bool} {r : Track} {l k : ℕ} (s : b ≡ stops t) (h : b ≡ false) (a : l ≡ arrival t) (p : k ≡ passesAt t l) where
-    pub step-waits : w ≡ true → r ≡ moved t WAITING l k false → r ≡ step t w
+    pub step-waits : w ≡ true → r ≡ moved t WAITING l k VISITED → r ≡ step t w
     unfolding step visited
     step-waits ew e = simp (← s, h, ew, ← a, ← p) e
 
-    pub step-plays : w ≡ false → r ≡ moved t (t .mode) l k false → r ≡ step t w
+    pub step-plays : w ≡ false → r ≡ moved t (t .mode) l k VISITED → r ≡ step t w
     unfolding step visited
     step-plays ew e = simp (← s, h, ew, ← a, ← p) e
 
+  -- home, far
+  pub home-back : t .direction ≡ BACKWARD → t .end .0 ≡ home t
+  home-back b = simp (eq-eqb _ _ b)
+
+  pub home-fore : (t .direction ≡ BACKWARD → ⊥) → t .start .0 ≡ home t
+  home-fore b = simp (ne-eqb _ _ b)
+
+  pub far-back : t .direction ≡ BACKWARD → t .start .0 ≡ far t
+  far-back b = simp (eq-eqb _ _ b)
+
+  pub far-fore : (t .direction ≡ BACKWARD → ⊥) → t .end .0 ≡ far t
+  far-fore b = simp (ne-eqb _ _ b)
+
   -- phase, place
-  pub phase-back : (l : ℕ) → t .backward ≡ true → t .end .0 - l ≡ phase t l
-  phase-back l b = simp b
+  pub phase-back : (l : ℕ) → t .direction ≡ BACKWARD → t .end .0 - l ≡ phase t l
+  phase-back l b = simp (eq-eqb _ _ b)
 
-  pub phase-fore : (l : ℕ) → t .backward ≡ false → l - t .start .0 ≡ phase t l
-  phase-fore l b = simp b
+  pub phase-fore : (l : ℕ) → (t .direction ≡ BACKWARD → ⊥) → l - t .start .0 ≡ phase t l
+  phase-fore l b = simp (ne-eqb _ _ b)
 
-  pub place-back : (k : ℕ) → t .backward ≡ true → t .end .0 - k ≡ place t k
-  place-back k b = simp b
+  pub place-back : (k : ℕ) → t .direction ≡ BACKWARD → t .end .0 - k ≡ place t k
+  place-back k b = simp (eq-eqb _ _ b)
 
-  pub place-fore : (k : ℕ) → t .backward ≡ false → t .start .0 + k ≡ place t k
-  place-fore k b = simp b
+  pub place-fore : (k : ℕ) → (t .direction ≡ BACKWARD → ⊥) → t .start .0 + k ≡ place t k
+  place-fore k b = simp (ne-eqb _ _ b)
 
   -- leap
   pub leap-none : Valid t → {n : ℕ} → n ≡ 0 → t ≡ leap t n
   leap-none v e = sym (leap-zero t v) ∙ ap (leap t) (sym e)
 
   pub leap-some : (n : ℕ) {s c l : ℕ} {r : Track} → s ≡ span t → c ≡ next t → (n ≡ 0 → ⊥) → l ≡ place t ((c + (n - 1)) % s) →
-      r ≡ moved t (t .mode) l (t .passes .0 + (c + n) / s) false → r ≡ leap t n
+      r ≡ moved t (t .mode) l (t .passes .0 + (c + n) / s) VISITED → r ≡ leap t n
   unfolding leap
   leap-some zero es ec h el er = absurd (h refl)
   leap-some (suc n) es ec h el er = let back : suc n - 1 ≡ n = omega arith in er ∙ simp (el, back, es, ec)
@@ -112,17 +125,17 @@ module _ (t : Track) where
       let k : max 1 (t .loops - t .passes .0) ≡ 1 = omega arith in
       simp (k, ec, es, one-mul)
 
-  pub runs-ever : t .repeat ≡ true → clockEnd ≡ running t
+  pub runs-ever : t .repeat ≡ REPEATING → clockEnd ≡ running t
   unfolding running
-  runs-ever r = simp r
+  runs-ever r = simp (eq-eqb _ _ r)
 
-  pub runs-long : {s : ℕ} → t .repeat ≡ false → s ≡ stopStep t → clockEnd < s - 1 → clockEnd ≡ running t
+  pub runs-long : {s : ℕ} → (t .repeat ≡ REPEATING → ⊥) → s ≡ stopStep t → clockEnd < s - 1 → clockEnd ≡ running t
   unfolding running
-  runs-long r e h = simp r (omega arith)
+  runs-long r e h = simp (ne-eqb _ _ r) (omega arith)
 
-  pub runs-short : {s : ℕ} → t .repeat ≡ false → s ≡ stopStep t → s - 1 ≤ clockEnd → s - 1 ≡ running t
+  pub runs-short : {s : ℕ} → (t .repeat ≡ REPEATING → ⊥) → s ≡ stopStep t → s - 1 ≤ clockEnd → s - 1 ≡ running t
   unfolding running
-  runs-short r e h = simp r (omega arith)
+  runs-short r e h = simp (ne-eqb _ _ r) (omega arith)
 
 -- ---- set-up changes: a number that is outside its range, and one within
 pub settled-stopped : {m : ℕ} → m ≡ STOPPED → true ≡ settled m

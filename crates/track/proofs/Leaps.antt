@@ -7,7 +7,7 @@ use native.Mathlib.Omega.{arith}
 use lib.Dec.{eqb, leb}
 use borrow.Author.Tests.{eqb-true, eq-eqb, lt-leb, le-leb, leb-false}
 use Rattle.track.specs.declared.Track.{Track}
-use Rattle.track.specs.Rule.{clockEnd, Valid, far, moved}
+use Rattle.track.specs.Rule.{VISITED, clockEnd, backward, repeats, Valid, far, moved}
 use Rattle.track.specs.Walk.{arrival, passesAt, stops, visited, step}
 use Rattle.track.specs.Leap.{span, phase, place, next, leap, walk, stopStep, running, stepsTo}
 use Rattle.track.proofs.Tests.{cond-cases, eqb-same}
@@ -18,8 +18,8 @@ module _ (t : Track) (v : Valid t) where
   -- a leap keeps the track valid
   pub leap-valid : (n : ℕ) → Valid (leap t n)
   unfolding leap
-  leap-valid zero = moved-valid t v _ _ _ _ (v .mode) (omega arith)
-  leap-valid (suc n) = moved-valid t v _ _ _ _ (v .mode) (place-inside t v _ (mod-lt _ (omega arith)))
+  leap-valid zero = moved-valid t v _ _ _ _ (v .mode) (v .due) (omega arith)
+  leap-valid (suc n) = moved-valid t v _ _ _ _ (v .mode) (omega arith) (place-inside t v _ (mod-lt _ (omega arith)))
 
   -- where the step after a leap arrives
   pub leap-next : (n : ℕ) → next (leap t n) ≡ (next t + n) % span t
@@ -48,7 +48,7 @@ module _ (t : Track) (v : Valid t) where
   pub leap-suc : (n : ℕ) → leap t (suc n) ≡ visited (leap t n) (t .mode)
   unfolding leap visited
   leap-suc n =
-      ap₂ (λ (l k : ℕ). moved t (t .mode) l k false) (sym (leap-arrival n))
+      ap₂ (λ (l k : ℕ). moved t (t .mode) l k VISITED) (sym (leap-arrival n))
       (ap (λ (x : ℕ). t .passes .0 + x / span t) (omega arith) ∙ sym (leap-passesAt n))
 
 -- two leaps are one
@@ -64,12 +64,12 @@ leap-add t v a (suc b) =
 module _ (t : Track) (v : Valid t) where
   -- the step after a leap is at far exactly at the last distance
   leap-far : (n : ℕ) → eqb (arrival (leap t n)) (far t) ≡ eqb ((next t + n) % span t + 1) (span t)
-  leap-far n = ap (λ (l : ℕ). eqb l (far t)) (leap-arrival t v n) ∙ go (t .backward) refl
+  leap-far n = ap (λ (l : ℕ). eqb l (far t)) (leap-arrival t v n) ∙ go (backward t) refl
     where
       small : (next t + n) % span t < span t
       small = mod-lt (next t + n) (omega arith)
 
-      go : (b : Bool) → t .backward ≡ b → eqb (place t ((next t + n) % span t)) (far t) ≡ eqb ((next t + n) % span t + 1) (span t)
+      go : (b : Bool) → backward t ≡ b → eqb (place t ((next t + n) % span t)) (far t) ≡ eqb ((next t + n) % span t + 1) (span t)
       go true eb =
           simp eb
           (eqb-same (t .end .0 - (next t + n) % span t) (t .start .0) ((next t + n) % span t + 1) (span t) (λ h. omega (arith, small))
@@ -81,16 +81,16 @@ module _ (t : Track) (v : Valid t) where
 
   -- when the step after a leap stops the track
   stops-leap : (n : ℕ) → stops (leap t n)
-      ≡ (eqb ((next t + n) % span t + 1) (span t) && not (t .repeat) && leb (t .loops) (t .passes .0 + (next t + n + 1) / span t))
+      ≡ (eqb ((next t + n) % span t + 1) (span t) && not (repeats t) && leb (t .loops) (t .passes .0 + (next t + n + 1) / span t))
   unfolding stops leap
-  stops-leap n = ap₂ (λ (f : Bool) (k : ℕ). f && not (t .repeat) && leb (t .loops) k) (leap-far n) (leap-passesAt t v n)
+  stops-leap n = ap₂ (λ (f : Bool) (k : ℕ). f && not (repeats t) && leb (t .loops) k) (leap-far n) (leap-passesAt t v n)
 
   -- no step before the stopping one stops the track, and none at all with repeat on
-  pub leap-runs : (n : ℕ) → (t .repeat ≡ false → suc n < stopStep t) → stops (leap t n) ≡ false
+  pub leap-runs : (n : ℕ) → (repeats t ≡ false → suc n < stopStep t) → stops (leap t n) ≡ false
   unfolding stopStep
-  leap-runs n h = stops-leap n ∙ go (t .repeat) (eqb ((next t + n) % span t + 1) (span t)) refl refl
+  leap-runs n h = stops-leap n ∙ go (repeats t) (eqb ((next t + n) % span t + 1) (span t)) refl refl
     where
-      go : (r f : Bool) → t .repeat ≡ r → eqb ((next t + n) % span t + 1) (span t) ≡ f →
+      go : (r f : Bool) → repeats t ≡ r → eqb ((next t + n) % span t + 1) (span t) ≡ f →
           (f && not r && leb (t .loops) (t .passes .0 + (next t + n + 1) / span t)) ≡ false
       go true true er ef = refl
       go true false er ef = refl
@@ -104,7 +104,7 @@ module _ (t : Track) (v : Valid t) where
           ))
 
   -- the stopping step stops it
-  pub leap-stops : (n : ℕ) → t .repeat ≡ false → suc n ≡ stopStep t → stops (leap t n) ≡ true
+  pub leap-stops : (n : ℕ) → repeats t ≡ false → suc n ≡ stopStep t → stops (leap t n) ≡ true
   unfolding stopStep
   leap-stops n er h =
       stops-leap n
@@ -113,7 +113,7 @@ module _ (t : Track) (v : Valid t) where
       (omega (arith, rounds-over (next t) n (max 1 (t .loops - t .passes .0)) (span t) h (omega arith))))
 
   -- a step before the stopping one that finds no wait flag leaps one further
-  pub leap-step : (n : ℕ) → (t .repeat ≡ false → suc n < stopStep t) → step (leap t n) false ≡ leap t (suc n)
+  pub leap-step : (n : ℕ) → (repeats t ≡ false → suc n < stopStep t) → step (leap t n) false ≡ leap t (suc n)
   unfolding step leap
   leap-step n h = simp (leap-runs n h) (sym (leap-suc t v n))
 
@@ -125,19 +125,19 @@ module _ (t : Track) (v : Valid t) where
 
   module _ (l : ℕ) (above : t .start .0 ≤ l) (below : l ≤ t .end .0) where
     pub phase-small : phase t l < span t
-    phase-small = cond-cases (λ (k : ℕ). k < span t) (t .backward) (λ _. omega arith) (λ _. omega arith)
+    phase-small = cond-cases (λ (k : ℕ). k < span t) (backward t) (λ _. omega arith) (λ _. omega arith)
 
     pub place-phase : place t (phase t l) ≡ l
-    place-phase = go (t .backward) refl
+    place-phase = go (backward t) refl
       where
-        go : (b : Bool) → t .backward ≡ b → place t (phase t l) ≡ l
+        go : (b : Bool) → backward t ≡ b → place t (phase t l) ≡ l
         go true eb = simp eb (omega arith)
         go false eb = simp eb (omega arith)
 
     pub phase-of : (k : ℕ) → k < span t → place t k ≡ l → k ≡ phase t l
-    phase-of k h e = go (t .backward) refl
+    phase-of k h e = go (backward t) refl
       where
-        go : (b : Bool) → t .backward ≡ b → k ≡ phase t l
+        go : (b : Bool) → backward t ≡ b → k ≡ phase t l
         go true eb = simp eb (omega (arith, simp eb at e))
         go false eb = simp eb (omega (arith, simp eb at e))
 
@@ -171,7 +171,7 @@ module _ (t : Track) (v : Valid t) where
       ∙ sym (leap-arrival t v n)
 
 -- n single steps that find no wait flag and do not stop the track are one leap
-pub leap-walk : (wait : ℕ → Bool) (t : Track) → Valid t → (n : ℕ) → (t .repeat ≡ false → n < stopStep t) →
+pub leap-walk : (wait : ℕ → Bool) (t : Track) → Valid t → (n : ℕ) → (repeats t ≡ false → n < stopStep t) →
     ((j : ℕ) → j < n → wait (arrival (leap t j)) ≡ false) → walk wait t n ≡ leap t n
 unfolding walk
 leap-walk wait t v zero h q = sym (leap-zero t v)
@@ -192,14 +192,14 @@ module _ (t : Track) (v : Valid t) where
       )
 
   -- `running` is short of the stopping step, and just short of it unless it is the clock's end
-  pub running-before : t .repeat ≡ false → running t < stopStep t
+  pub running-before : repeats t ≡ false → running t < stopStep t
   unfolding running
   running-before r = simp r (omega (arith, stop-later t v))
 
-  pub running-exact : running t < clockEnd → (t .repeat ≡ false) × (suc (running t) ≡ stopStep t)
+  pub running-exact : running t < clockEnd → (repeats t ≡ false) × (suc (running t) ≡ stopStep t)
   unfolding running
-  running-exact = go (t .repeat) refl
+  running-exact = go (repeats t) refl
     where
-      go : (r : Bool) → t .repeat ≡ r → running t < clockEnd → (t .repeat ≡ false) × (suc (running t) ≡ stopStep t)
+      go : (r : Bool) → repeats t ≡ r → running t < clockEnd → (repeats t ≡ false) × (suc (running t) ≡ stopStep t)
       go true er h = absurd (omega (arith, simp er at h))
       go false er h = (er, simp er (omega (arith, simp er at h, stop-later t v)))

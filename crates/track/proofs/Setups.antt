@@ -1,10 +1,9 @@
 -- What the set-up changes keep.
-use Prim.Native.Nat.{ℕ, _+_, _-_, _*_, _≤_, _<_}
+use Prim.Native.Nat.{ℕ, zero, suc, _+_, _-_, _*_, _≤_, _<_}
 use mathlib.Core.Path.{_≡_, refl, _∙_}
-use mathlib.Core.Bool.{Bool, true, false}
-use mathlib.Core.List.{List}
+use mathlib.Core.List.{List, [], _∷_}
 use native.Mathlib.Omega.{arith}
-use lib.ListN.{set}
+use lib.ListN.{getD, set, length-set, replicate}
 use lib.Seq.{getD-set-other}
 use lib.IntN.{ℤ}
 use lib.Dec.{eqb}
@@ -18,10 +17,11 @@ use Rattle.track.specs.declared.number.Place.the-variants as place
 use Rattle.track.specs.declared.setup.Change.{Change}
 use Rattle.track.specs.declared.setup.Change.the-variants as change
 use Rattle.track.specs.declared.setup.Changed.{Changed}
-use Rattle.track.specs.Rule.{STOPPED, Valid, Diagonal, newTrack, rewound}
+use Rattle.track.specs.Rule.{STOPPED, BACKWARD, REPEATING, DUE, loopsMost, cellCount, cellMost, eventsTest, Ordered, Valid, Cells, newTrack, rewound}
 use Rattle.track.specs.Number.{naturalOf, coordinateOf, within, onNatural, onPlace}
 use Rattle.track.specs.Setup.{refused, setTo, turned, startSet, endSet, loopsSet, repeatSet, directionSet, actionSet, jumpTo, setBy, permits, changedBy}
 use Rattle.track.proofs.Tests.{cond-cases}
+use Rattle.track.proofs.Checks.{events-of}
 use Rattle.track.proofs.Numbers.{natural-in, within-in}
 use Rattle.track.proofs.Arrivals.{moved-valid}
 
@@ -35,9 +35,18 @@ pub record Keeps (t u : Track) : Type 0 where
 
 -- a new track between bounds in order is valid
 pub new-valid : (a b : Coordinate) → a .0 < b .0 → b .0 ≤ 2000000 → Valid (newTrack a b)
-unfolding newTrack
+unfolding newTrack eventsTest
 new-valid a b h l =
-    record { ordered = omega arith; loops = omega arith; mode = omega arith; diagonal = record { stopped = refl; playing = refl; paused = refl; waiting = refl } }
+    record {
+      ordered = omega arith;
+      loops = omega arith;
+      mode = omega arith;
+      direction = omega arith;
+      repeat = omega arith;
+      due = omega arith;
+      cells =
+          record { number = refl; event = events-of (replicate cellCount 0) refl; stopped = refl; playing = refl; paused = refl; waiting = refl };
+    }
 
 module _ (t : Track) (v : Valid t) where
   same : Keeps t t
@@ -60,10 +69,19 @@ on-place P t low high p f kept does = go (within low high p) refl
     go (place.At c) e = let b = within-in low high p e in does c (b .0) (b .1)
     go place.Outside e = kept
 
--- a cell off the diagonal is set
-set-diagonal : (l : List ℕ) (a b e : ℕ) → a ≤ 3 → b ≤ 3 → (a ≡ b → ⊥) → Diagonal l → Diagonal (set l (a * 4 + b) e)
-set-diagonal l a b e ha hb n d =
+set-event : (l : List ℕ) (i e : ℕ) → e ≤ cellMost → ((k : ℕ) → getD l k 0 ≤ cellMost) → (k : ℕ) → getD (set l i e) k 0 ≤ cellMost
+set-event [] i e he h k = h k
+set-event (x ∷ l) zero e he h zero = he
+set-event (x ∷ l) zero e he h (suc k) = h (suc k)
+set-event (x ∷ l) (suc i) e he h zero = h zero
+set-event (x ∷ l) (suc i) e he h (suc k) = set-event l i e he (λ j. h (suc j)) k
+
+-- a cell between two modes is set
+set-cells : (l : List ℕ) (a b e : ℕ) → a ≤ 3 → b ≤ 3 → e ≤ cellMost → (a ≡ b → ⊥) → Cells l → Cells (set l (a * 4 + b) e)
+set-cells l a b e ha hb he n d =
     record {
+      number = length-set l (a * 4 + b) e ∙ d .number;
+      event = set-event l (a * 4 + b) e he (d .event);
       stopped = getD-set-other l (a * 4 + b) 0 e 0 (λ h. n (omega arith)) ∙ d .stopped;
       playing = getD-set-other l (a * 4 + b) 5 e 0 (λ h. n (omega arith)) ∙ d .playing;
       paused = getD-set-other l (a * 4 + b) 10 e 0 (λ h. n (omega arith)) ∙ d .paused;
@@ -75,54 +93,90 @@ module _ (t : Track) (v : Valid t) where
   spanned : (u : Track) → Valid (rewound u) → u .min ≡ t .min → u .max ≡ t .max → u .mode ≡ t .mode → Keeps t (rewound u)
   spanned u w a b m = record { valid = w; min = a; max = b; mode = m; passes = omega arith }
 
-  rewound-valid : (start end : Coordinate) (backward : Bool) → t .min .0 ≤ start .0 → start .0 < end .0 → end .0 ≤ t .max .0 →
-      Valid (rewound (setTo t start end (t .loops) (t .repeat) backward))
-  rewound-valid start end true a b c = omega arith
-  rewound-valid start end false a b c = omega arith
+  rewound-valid : (start end : Coordinate) (direction : ℕ) → direction ≤ BACKWARD → t .min .0 ≤ start .0 → start .0 < end .0 →
+      end .0 ≤ t .max .0 → Valid (rewound (setTo t start end (t .loops) (t .repeat) direction))
+  rewound-valid start end direction d a b c =
+      record {
+        ordered =
+            cond-cases (λ (l : ℕ). Ordered (t .min .0) (t .max .0) (start .0) (end .0) l) (eqb direction BACKWARD) (λ _. omega arith)
+            (λ _. omega arith);
+        loops = v .loops;
+        mode = v .mode;
+        direction = d;
+        repeat = v .repeat;
+        due = omega arith;
+        cells = v .cells;
+      }
 
   start-keeps : (p : ℤ) → Keeps t (startSet t p .track)
   unfolding startSet
   start-keeps p =
       on-place (Keeps t) t (t .min .0) (t .end .0 - 1) (coordinateOf p) _ (same t v)
-      (λ c low high. spanned (setTo t c (t .end) (t .loops) (t .repeat) (t .backward))
-      (rewound-valid c (t .end) (t .backward) low (omega arith) (omega arith)) refl refl refl)
+      (λ c low high. spanned (setTo t c (t .end) (t .loops) (t .repeat) (t .direction))
+      (rewound-valid c (t .end) (t .direction) (v .direction) low (omega arith) (omega arith)) refl refl refl)
 
   end-keeps : (p : ℤ) → Keeps t (endSet t p .track)
   unfolding endSet
   end-keeps p =
       on-place (Keeps t) t (t .start .0 + 1) (t .max .0) (coordinateOf p) _ (same t v)
-      (λ c low high. spanned (setTo t (t .start) c (t .loops) (t .repeat) (t .backward))
-      (rewound-valid (t .start) c (t .backward) (omega arith) (omega arith) high) refl refl refl)
+      (λ c low high. spanned (setTo t (t .start) c (t .loops) (t .repeat) (t .direction))
+      (rewound-valid (t .start) c (t .direction) (v .direction) (omega arith) (omega arith) high) refl refl refl)
 
   -- loops, repeat and direction leave the walk where it is
-  set-keeps : (loops : ℕ) (repeat backward : Bool) → 1 ≤ loops → Keeps t (setTo t (t .start) (t .end) loops repeat backward)
-  set-keeps loops repeat backward h = record { valid = omega arith; min = refl; max = refl; mode = refl; passes = omega arith }
+  set-keeps : (loops repeat direction : ℕ) → (1 ≤ loops) × (loops ≤ loopsMost) → repeat ≤ REPEATING → direction ≤ BACKWARD →
+      Keeps t (setTo t (t .start) (t .end) loops repeat direction)
+  set-keeps loops repeat direction l r d =
+      record {
+        valid =
+            record {
+              ordered = v .ordered;
+              loops = l;
+              mode = v .mode;
+              direction = d;
+              repeat = r;
+              due = v .due;
+              cells = v .cells;
+            };
+        min = refl;
+        max = refl;
+        mode = refl;
+        passes = omega arith;
+      }
 
   loops-keeps : (n : ℤ) → Keeps t (loopsSet t n .track)
   unfolding loopsSet
-  loops-keeps n = on-natural (Keeps t) t n 1 65535 _ (same t v) (λ k low high. set-keeps k (t .repeat) (t .backward) low)
+  loops-keeps n = on-natural (Keeps t) t n 1 loopsMost _ (same t v) (λ k low high. set-keeps k (t .repeat) (t .direction) (low, high) (v .repeat) (v .direction))
 
   repeat-keeps : (f : ℤ) → Keeps t (repeatSet t f .track)
   unfolding repeatSet
-  repeat-keeps f = on-natural (Keeps t) t f 0 1 _ (same t v) (λ k low high. set-keeps (t .loops) (eqb k 1) (t .backward) (v .loops))
+  repeat-keeps f = on-natural (Keeps t) t f 0 1 _ (same t v) (λ k low high. set-keeps (t .loops) k (t .direction) (v .loops) high (v .direction))
 
   direction-keeps : (d : ℤ) → Keeps t (directionSet t d .track)
   unfolding directionSet
   direction-keeps d =
       on-natural (Keeps t) t d 0 1 _ (same t v)
       (λ k low high. cond-cases (Keeps t) (eqb (t .mode) STOPPED)
-      (λ _. spanned (turned t (eqb k 1)) (rewound-valid (t .start) (t .end) (eqb k 1) (omega arith) (omega arith) (omega arith)) refl refl refl)
-      (λ _. set-keeps (t .loops) (t .repeat) (eqb k 1) (v .loops)))
+      (λ _. spanned (turned t k) (rewound-valid (t .start) (t .end) k high (omega arith) (omega arith) (omega arith)) refl refl refl)
+      (λ _. set-keeps (t .loops) (t .repeat) k (v .loops) (v .repeat) high))
 
   action-keeps : (from to event : ℤ) → Keeps t (actionSet t from to event .track)
   unfolding actionSet
   action-keeps from to event =
       on-natural (Keeps t) t from 0 3 _ (same t v)
       (λ a la ha. on-natural (Keeps t) t to 0 3 _ (same t v)
-      (λ b lb hb. on-natural (Keeps t) t event 0 255 _ (same t v)
+      (λ b lb hb. on-natural (Keeps t) t event 0 cellMost _ (same t v)
       (λ e le he. cond-cases (λ (r : Changed). Keeps t (r .track)) (eqb a b) (λ _. same t v)
       (λ n. record {
-        valid = record { ordered = v .ordered; loops = v .loops; mode = v .mode; diagonal = set-diagonal (t .actions) a b e ha hb (eqb-false a b n) (v .diagonal) };
+        valid =
+            record {
+              ordered = v .ordered;
+              loops = v .loops;
+              mode = v .mode;
+              direction = v .direction;
+              repeat = v .repeat;
+              due = v .due;
+              cells = set-cells (t .actions) a b e ha hb he (eqb-false a b n) (v .cells);
+            };
         min = refl;
         max = refl;
         mode = refl;
@@ -133,7 +187,7 @@ module _ (t : Track) (v : Valid t) where
   unfolding jumpTo
   jump-keeps p =
       on-place (Keeps t) t (t .start .0) (t .end .0) (coordinateOf p) _ (same t v)
-      (λ c low high. record { valid = moved-valid t v (t .mode) (c .0) (t .passes .0) true (v .mode) (low, high); min = refl; max = refl; mode = refl; passes = omega arith })
+      (λ c low high. record { valid = moved-valid t v (t .mode) (c .0) (t .passes .0) DUE (v .mode) (omega arith) (low, high); min = refl; max = refl; mode = refl; passes = omega arith })
 
   -- no set-up change breaks a rule of a track, moves its bounds or its mode, or adds a pass
   pub changed-keeps : (c : Change) → Keeps t (changedBy t c .track)

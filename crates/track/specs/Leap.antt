@@ -1,8 +1,8 @@
 -- Many steps at once. The walk is counted in locations from home, which is free of direction.
 use Prim.Native.Nat.{ℕ, zero, suc, _+_, _-_, _*_, _/_, _%_, max, min}
-use mathlib.Core.Bool.{Bool, cond, false}
+use mathlib.Core.Bool.{Bool, cond}
 use lib.Dec.{leb}
-use Rattle.track.specs.Rule.{clockEnd, moved}
+use Rattle.track.specs.Rule.{clockEnd, VISITED, backward, repeats, moved}
 use Rattle.track.specs.Walk.{arrival, step}
 use Rattle.track.specs.declared.Track.{Track}
 
@@ -11,10 +11,10 @@ abbrev pub span : Track → ℕ
 span t = t .end .0 - t .start .0 + 1
 
 abbrev pub phase : Track → ℕ → ℕ
-phase t l = cond (t .backward) (t .end .0 - l) (l - t .start .0)
+phase t l = cond (backward t) (t .end .0 - l) (l - t .start .0)
 
 abbrev pub place : Track → ℕ → ℕ
-place t k = cond (t .backward) (t .end .0 - k) (t .start .0 + k)
+place t k = cond (backward t) (t .end .0 - k) (t .start .0 + k)
 
 -- the distance from home of the location that the next step reaches
 unfoldable pub next : Track → ℕ
@@ -26,9 +26,9 @@ abbrev pub leapPosition : Track → ℕ → ℕ
 leapPosition t zero = t .position .0
 leapPosition t (suc n) = place t ((next t + n) % span t)
 
-abbrev pub leapDue : Bool → ℕ → Bool
+abbrev pub leapDue : ℕ → ℕ → ℕ
 leapDue due zero = due
-leapDue due (suc n) = false
+leapDue due (suc n) = VISITED
 
 unfoldable pub leap : Track → ℕ → Track
 leap t n = moved t (t .mode) (leapPosition t n) (t .passes .0 + (next t + n) / span t) (leapDue (t .due) n)
@@ -44,7 +44,7 @@ stopStep t = max 1 (t .loops - t .passes .0) * span t - next t
 
 -- the steps before the one that stops the track, at most the clock's end
 unfoldable pub running : Track → ℕ
-running t = cond (t .repeat) clockEnd (min clockEnd (stopStep t - 1))
+running t = cond (repeats t) clockEnd (min clockEnd (stopStep t - 1))
 
 -- the steps from place c to place f of a cycle of n places
 abbrev pub ahead : ℕ → ℕ → ℕ → ℕ

@@ -3,7 +3,7 @@ use Prim.Native.Nat.{ℕ, _+_, _*_, _≤_, _<_}
 use mathlib.Core.Bool.{Bool, cond, true, false, _&&_}
 use mathlib.Core.Path.{_≡_}
 use mathlib.Core.List.{List, [], _∷_}
-use lib.ListN.{replicate, getD}
+use lib.ListN.{replicate, getD, length}
 use lib.Dec.{ltb, leb, eqb}
 use Rattle.track.specs.declared.Track.{Track}
 use Rattle.track.specs.declared.Coordinate.{Coordinate}
@@ -21,6 +21,41 @@ PAUSED = 2
 
 abbrev pub WAITING : ℕ
 WAITING = 3
+
+-- a direction: 0 forward, 1 backward; a repeat flag; a due flag, 1 where the position is not yet visited
+abbrev pub FORWARD : ℕ
+FORWARD = 0
+
+abbrev pub BACKWARD : ℕ
+BACKWARD = 1
+
+abbrev pub REPEATING : ℕ
+REPEATING = 1
+
+abbrev pub VISITED : ℕ
+VISITED = 0
+
+abbrev pub DUE : ℕ
+DUE = 1
+
+abbrev pub backward : Track → Bool
+backward t = eqb (t .direction) BACKWARD
+
+abbrev pub repeats : Track → Bool
+repeats t = eqb (t .repeat) REPEATING
+
+abbrev pub isDue : Track → Bool
+isDue t = eqb (t .due) DUE
+
+-- the greatest loop count, the number of action cells and the greatest event
+abbrev pub loopsMost : ℕ
+loopsMost = 65535
+
+abbrev pub cellCount : ℕ
+cellCount = 16
+
+abbrev pub cellMost : ℕ
+cellMost = 255
 
 -- the coordinate of the position 1,000,000
 abbrev pub coordinateLast : ℕ
@@ -42,21 +77,21 @@ newTrack a b =
       passes = record { 0 = 0 };
       loops = 1;
       mode = STOPPED;
-      backward = false;
-      repeat = false;
-      due = true;
-      actions = replicate 16 0;
+      direction = FORWARD;
+      repeat = 0;
+      due = DUE;
+      actions = replicate cellCount 0;
     }
 
 -- The home position is start when forward, end when backward; the far position is the other.
 abbrev pub home : Track → ℕ
-home t = cond (t .backward) (t .end .0) (t .start .0)
+home t = cond (backward t) (t .end .0) (t .start .0)
 
 abbrev pub far : Track → ℕ
-far t = cond (t .backward) (t .start .0) (t .end .0)
+far t = cond (backward t) (t .start .0) (t .end .0)
 
 -- the track in another mode, at another position, with other passes, due or visited
-abbrev pub moved : Track → ℕ → ℕ → ℕ → Bool → Track
+abbrev pub moved : Track → ℕ → ℕ → ℕ → ℕ → Track
 moved t mode position passes due =
     record {
       min = t .min;
@@ -67,7 +102,7 @@ moved t mode position passes due =
       passes = record { 0 = passes };
       loops = t .loops;
       mode = mode;
-      backward = t .backward;
+      direction = t .direction;
       repeat = t .repeat;
       due = due;
       actions = t .actions;
@@ -75,11 +110,11 @@ moved t mode position passes due =
 
 -- rewound: position home, due set, passes 0
 abbrev pub rewound : Track → Track
-rewound t = moved t (t .mode) (home t) 0 true
+rewound t = moved t (t .mode) (home t) 0 DUE
 
 -- STOPPED and rewound
 abbrev pub stopped : Track → Track
-stopped t = moved t STOPPED (home t) 0 true
+stopped t = moved t STOPPED (home t) 0 DUE
 
 -- the track that a call or a command takes to a mode: stop rewinds, from STOPPED also
 unfoldable pub entered : Track → ℕ → Track
@@ -99,19 +134,24 @@ pub record Ordered (min max start end position : ℕ) : Type 0 where
   pub above : start ≤ position
   pub below : position ≤ end
 
--- An action is always 0 between equal modes.
-pub record Diagonal (cells : List ℕ) : Type 0 where
+-- Sixteen action cells, each an event 0 to 255, always 0 between equal modes.
+pub record Cells (cells : List ℕ) : Type 0 where
+  pub number : length cells ≡ cellCount
+  pub event : (k : ℕ) → getD cells k 0 ≤ cellMost
   pub stopped : getD cells 0 0 ≡ 0
   pub playing : getD cells 5 0 ≡ 0
   pub paused : getD cells 10 0 ≡ 0
   pub waiting : getD cells 15 0 ≡ 0
 
--- Every range and rule of a track by itself. That loops are at most 65,535 and events at most 255 their types say.
+-- Every range and rule of a track by itself.
 pub record Valid (t : Track) : Type 0 where
   pub ordered : Ordered (t .min .0) (t .max .0) (t .start .0) (t .end .0) (t .position .0)
-  pub loops : 1 ≤ t .loops
+  pub loops : (1 ≤ t .loops) × (t .loops ≤ loopsMost)
   pub mode : t .mode ≤ WAITING
-  pub diagonal : Diagonal (t .actions)
+  pub direction : t .direction ≤ BACKWARD
+  pub repeat : t .repeat ≤ REPEATING
+  pub due : t .due ≤ DUE
+  pub cells : Cells (t .actions)
 
 -- A pass count, never above the board's clock.
 pub record Sound (t : Track) (clock : Ticks) : Type 0 where
@@ -135,10 +175,16 @@ orderedTest min max start end position =
     ∷ leb position end
     ∷ [])
 
-unfoldable pub diagonalTest : List ℕ → Bool
-diagonalTest cells =
+unfoldable pub eventsTest : List ℕ → Bool
+eventsTest [] = true
+eventsTest (e ∷ es) = leb e cellMost && eventsTest es
+
+unfoldable pub cellsTest : List ℕ → Bool
+cellsTest cells =
     every
-    (eqb (getD cells 0 0) 0
+    (eqb (length cells) cellCount
+    ∷ eventsTest cells
+    ∷ eqb (getD cells 0 0) 0
     ∷ eqb (getD cells 5 0) 0
     ∷ eqb (getD cells 10 0) 0
     ∷ eqb (getD cells 15 0) 0
@@ -149,8 +195,12 @@ validTest t =
     every
     (orderedTest (t .min .0) (t .max .0) (t .start .0) (t .end .0) (t .position .0)
     ∷ leb 1 (t .loops)
+    ∷ leb (t .loops) loopsMost
     ∷ leb (t .mode) WAITING
-    ∷ diagonalTest (t .actions)
+    ∷ leb (t .direction) BACKWARD
+    ∷ leb (t .repeat) REPEATING
+    ∷ leb (t .due) DUE
+    ∷ cellsTest (t .actions)
     ∷ [])
 
 unfoldable pub soundTest : Track → Ticks → Bool

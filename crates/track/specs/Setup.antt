@@ -1,10 +1,10 @@
 -- The set-up changes of a track, as far as the track alone decides them (01, "Other calls" and "Turned down").
 use Prim.Native.Nat.{ℕ, _+_, _-_, _*_}
-use mathlib.Core.Bool.{Bool, true, cond, _||_}
+use mathlib.Core.Bool.{Bool, cond, _||_}
 use lib.ListN.{set}
 use lib.IntN.{ℤ}
 use lib.Dec.{eqb}
-use Rattle.track.specs.Rule.{STOPPED, PAUSED, moved, rewound}
+use Rattle.track.specs.Rule.{STOPPED, PAUSED, DUE, loopsMost, cellMost, moved, rewound}
 use Rattle.track.specs.Number.{naturalOf, coordinateOf, within, onNatural, onPlace}
 use Rattle.track.specs.declared.Track.{Track}
 use Rattle.track.specs.declared.Coordinate.{Coordinate}
@@ -21,8 +21,8 @@ abbrev pub accepted : Track → Changed
 accepted t = record { answer = Accepted; track = t }
 
 -- the track with another span, loop count, repeat flag, direction or row of action cells
-abbrev pub setTo : Track → Coordinate → Coordinate → ℕ → Bool → Bool → Track
-setTo t start end loops repeat backward =
+abbrev pub setTo : Track → Coordinate → Coordinate → ℕ → ℕ → ℕ → Track
+setTo t start end loops repeat direction =
     record {
       min = t .min;
       max = t .max;
@@ -32,7 +32,7 @@ setTo t start end loops repeat backward =
       passes = t .passes;
       loops = loops;
       mode = t .mode;
-      backward = backward;
+      direction = direction;
       repeat = repeat;
       due = t .due;
       actions = t .actions;
@@ -49,7 +49,7 @@ withAction t at event =
       passes = t .passes;
       loops = t .loops;
       mode = t .mode;
-      backward = t .backward;
+      direction = t .direction;
       repeat = t .repeat;
       due = t .due;
       actions = set (t .actions) at event;
@@ -73,46 +73,46 @@ permits (change.Jump p) mode = settled mode
 unfoldable pub startSet : Track → ℤ → Changed
 startSet t p =
     onPlace (within (t .min .0) (t .end .0 - 1) (coordinateOf p))
-    (λ c. accepted (rewound (setTo t c (t .end) (t .loops) (t .repeat) (t .backward)))) (refused 3 t)
+    (λ c. accepted (rewound (setTo t c (t .end) (t .loops) (t .repeat) (t .direction)))) (refused 3 t)
 
 -- end: start < end ≤ max; rewinds
 unfoldable pub endSet : Track → ℤ → Changed
 endSet t p =
     onPlace (within (t .start .0 + 1) (t .max .0) (coordinateOf p))
-    (λ c. accepted (rewound (setTo t (t .start) c (t .loops) (t .repeat) (t .backward)))) (refused 3 t)
+    (λ c. accepted (rewound (setTo t (t .start) c (t .loops) (t .repeat) (t .direction)))) (refused 3 t)
 
 -- a loop count 1 to 65,535
 unfoldable pub loopsSet : Track → ℤ → Changed
 loopsSet t n =
-    onNatural (naturalOf n 1 65535) (λ k. accepted (setTo t (t .start) (t .end) k (t .repeat) (t .backward))) (refused 3 t)
+    onNatural (naturalOf n 1 loopsMost) (λ k. accepted (setTo t (t .start) (t .end) k (t .repeat) (t .direction))) (refused 3 t)
 
 -- a repeat flag, 0 or 1
 unfoldable pub repeatSet : Track → ℤ → Changed
 repeatSet t f =
-    onNatural (naturalOf f 0 1) (λ k. accepted (setTo t (t .start) (t .end) (t .loops) (eqb k 1) (t .backward))) (refused 3 t)
+    onNatural (naturalOf f 0 1) (λ k. accepted (setTo t (t .start) (t .end) (t .loops) k (t .direction))) (refused 3 t)
 
 -- a direction, 0 forward, 1 backward: when STOPPED it rewinds by the new one; when PAUSED nothing else changes
-abbrev pub turned : Track → Bool → Track
-turned t backward = setTo t (t .start) (t .end) (t .loops) (t .repeat) backward
+abbrev pub turned : Track → ℕ → Track
+turned t direction = setTo t (t .start) (t .end) (t .loops) (t .repeat) direction
 
 unfoldable pub directionSet : Track → ℤ → Changed
 directionSet t d =
     onNatural (naturalOf d 0 1)
-    (λ k. accepted (cond (eqb (t .mode) STOPPED) (rewound (turned t (eqb k 1))) (turned t (eqb k 1)))) (refused 3 t)
+    (λ k. accepted (cond (eqb (t .mode) STOPPED) (rewound (turned t k)) (turned t k))) (refused 3 t)
 
 -- an action (from ≠ to; event 0 to 255)
 unfoldable pub actionSet : Track → ℤ → ℤ → ℤ → Changed
 actionSet t from to event =
     onNatural (naturalOf from 0 3)
     (λ a. onNatural (naturalOf to 0 3)
-    (λ b. onNatural (naturalOf event 0 255)
+    (λ b. onNatural (naturalOf event 0 cellMost)
     (λ e. cond (eqb a b) (refused 3 t) (accepted (withAction t (a * 4 + b) e))) (refused 3 t)) (refused 3 t)) (refused 3 t)
 
 -- jump: start to end; sets due
 unfoldable pub jumpTo : Track → ℤ → Changed
 jumpTo t p =
     onPlace (within (t .start .0) (t .end .0) (coordinateOf p))
-    (λ c. accepted (moved t (t .mode) (c .0) (t .passes .0) true)) (refused 3 t)
+    (λ c. accepted (moved t (t .mode) (c .0) (t .passes .0) DUE)) (refused 3 t)
 
 -- what a change gives where the mode allows it: 3 for a value outside its range or rule
 unfoldable pub setBy : Track → Change → Changed

@@ -3,7 +3,7 @@ use crate::Coordinate;
 use crate::Ticks;
 use crate::Track;
 ghost use mathlib.Core.Path.{_≡_};
-ghost use Rattle.track.specs.Rule.{orderedTest, diagonalTest, validTest, soundTest};
+ghost use Rattle.track.specs.Rule.{orderedTest, cellsTest, validTest, soundTest};
 
 // The order of a track's coordinates.
 fn ordered(min: u32, max: u32, start: u32, end: u32, position: u32) -> bool
@@ -33,9 +33,9 @@ fn ordered(min: u32, max: u32, start: u32, end: u32, position: u32) -> bool
     true
 }
 
-// No action between equal modes.
-fn diagonal(cells: [u8; Track::CELLS]) -> bool
-    ensures { λ r. ⌜ r ≡ diagonalTest cells ⌝ }
+// The rules of the action cells: none between equal modes. That they are sixteen bytes their type says.
+fn cells_kept(cells: [u8; Track::CELLS]) -> bool
+    ensures { λ r. ⌜ r ≡ cellsTest cells ⌝ }
 {
     if cells[0] != 0 {
         return false;
@@ -73,7 +73,16 @@ impl Track {
         if self.mode > Track::WAITING {
             return false;
         }
-        diagonal(cells)
+        if self.direction > Track::BACKWARD {
+            return false;
+        }
+        if self.repeat > Track::REPEATING {
+            return false;
+        }
+        if self.due > Track::DUE {
+            return false;
+        }
+        cells_kept(cells)
     }
 
     // Valid, and the passes are not above the clock.

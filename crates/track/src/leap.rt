@@ -22,7 +22,7 @@ impl Track {
         requires { ⌜ (self .start .0 ≤ l .0) × (l .0 ≤ self .end .0) ⌝ }
         ensures { λ r. ⌜ r ≡ phase self (l .0) ⌝ }
     {
-        if self.backward {
+        if self.direction == Track::BACKWARD {
             self.end.0 - l.0
         } else {
             l.0 - self.start.0
@@ -35,7 +35,7 @@ impl Track {
         requires { ⌜ k < span self ⌝ }
         ensures { λ r. ⌜ r .0 ≡ place self k ⌝ }
     {
-        if self.backward {
+        if self.direction == Track::BACKWARD {
             Coordinate(self.end.0 - k)
         } else {
             Coordinate(self.start.0 + k)
@@ -65,7 +65,7 @@ impl Track {
         let next = self.next();
         let l = self.place((next + (steps - 1)) % span);
         let passes = Passes(self.passes.0 + (next + steps) / span);
-        self.moved(self.mode, l, passes, false)
+        self.moved(self.mode, l, passes, Track::VISITED)
     }
 
     // The number of the step, counted from 1, that stops a track with repeat off.
@@ -89,7 +89,7 @@ impl Track {
         requires { ⌜ Valid self ⌝ }
         ensures { λ r. ⌜ r .0 ≡ running self ⌝ }
     {
-        if self.repeat {
+        if self.repeat == Track::REPEATING {
             return Ticks(Ticks::END);
         }
         let before = self.stop_step() - 1;

@@ -33,10 +33,12 @@ pub struct Track {
     pub passes: Passes,
     pub loops: u16,
     pub mode: u8,
-    pub backward: bool,
-    pub repeat: bool,
+    // 0 forward, 1 backward.
+    pub direction: u8,
+    // 0 or 1, as the next: a byte, since C can lend any.
+    pub repeat: u8,
     // The position is not yet visited.
-    pub due: bool,
+    pub due: u8,
     // The event of a change from mode a to mode b stands at a * 4 + b; 0 means none.
     pub actions: [u8; Track::CELLS],
 }
@@ -63,6 +65,16 @@ impl Track {
 
     pub const WAITING: u8 = 3;
 
+    pub const FORWARD: u8 = 0;
+
+    pub const BACKWARD: u8 = 1;
+
+    pub const REPEATING: u8 = 1;
+
+    pub const VISITED: u8 = 0;
+
+    pub const DUE: u8 = 1;
+
     pub const CELLS: usize = 16;
 
     pub const LOOPS: u32 = 65535;
@@ -82,9 +94,9 @@ impl Track {
             passes: Passes(0),
             loops: 1,
             mode: Track::STOPPED,
-            backward: false,
-            repeat: false,
-            due: true,
+            direction: Track::FORWARD,
+            repeat: 0,
+            due: Track::DUE,
             actions: [0u8; Track::CELLS],
         }
     }
@@ -93,7 +105,7 @@ impl Track {
     pub fn home(self) -> Coordinate
         ensures { λ r. ⌜ r .0 ≡ home self ⌝ }
     {
-        if self.backward {
+        if self.direction == Track::BACKWARD {
             Coordinate(self.end.0)
         } else {
             Coordinate(self.start.0)
@@ -104,7 +116,7 @@ impl Track {
     pub fn far(self) -> Coordinate
         ensures { λ r. ⌜ r .0 ≡ far self ⌝ }
     {
-        if self.backward {
+        if self.direction == Track::BACKWARD {
             Coordinate(self.start.0)
         } else {
             Coordinate(self.end.0)
@@ -112,7 +124,7 @@ impl Track {
     }
 
     // The track in another mode, at another position, with other passes, due or visited.
-    fn moved(mut self, mode: u8, position: Coordinate, passes: Passes, due: bool) -> Track
+    fn moved(mut self, mode: u8, position: Coordinate, passes: Passes, due: u8) -> Track
         ensures { λ r. ⌜ r ≡ moved self mode (position .0) (passes .0) due ⌝ }
     {
         self.mode = mode;
@@ -126,7 +138,7 @@ impl Track {
     fn rewound(self) -> Track
         ensures { λ r. ⌜ r ≡ rewound self ⌝ }
     {
-        self.moved(self.mode, self.home(), Passes(0), true)
+        self.moved(self.mode, self.home(), Passes(0), Track::DUE)
     }
 
     // The track as a call or a command that goes to this mode leaves it: STOPPED rewinds.
@@ -134,7 +146,7 @@ impl Track {
         ensures { λ r. ⌜ r ≡ entered self mode ⌝ }
     {
         if mode == Track::STOPPED {
-            return self.moved(mode, self.home(), Passes(0), true);
+            return self.moved(mode, self.home(), Passes(0), Track::DUE);
         }
         self.moved(mode, self.position, self.passes, self.due)
     }

@@ -132,7 +132,7 @@ impl Track {
             return refused(Answer::VALUE, self);
         };
         let mut next = self;
-        next.repeat = k == 1;
+        next.repeat = k as u8;
         accepted(next)
     }
 
@@ -145,7 +145,7 @@ impl Track {
         };
         let mode = self.mode;
         let mut next = self;
-        next.backward = k == 1;
+        next.direction = k as u8;
         if mode == Track::STOPPED {
             return accepted(next.rewound());
         }
@@ -183,7 +183,7 @@ impl Track {
         let Place::At(c) = Coordinate::between(p, low, high) else {
             return refused(Answer::VALUE, self);
         };
-        accepted(self.moved(self.mode, c, self.passes, true))
+        accepted(self.moved(self.mode, c, self.passes, Track::DUE))
     }
 
     // A set-up change: refused 2 where the mode does not allow it, then 3 for its value.

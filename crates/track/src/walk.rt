@@ -14,10 +14,10 @@ impl Track {
         ensures { λ r. ⌜ r .0 ≡ arrival self ⌝ }
     {
         let position = self.position.0;
-        if self.due {
+        if self.due == Track::DUE {
             return Coordinate(position);
         }
-        if self.backward {
+        if self.direction == Track::BACKWARD {
             if position == self.start.0 {
                 Coordinate(self.end.0)
             } else {
@@ -57,7 +57,7 @@ impl Track {
         if l.0 != far.0 {
             return false;
         }
-        if self.repeat {
+        if self.repeat == Track::REPEATING {
             return false;
         }
         (self.loops as u32) <= passes.0
@@ -70,14 +70,14 @@ impl Track {
         ensures { λ r. ⌜ r ≡ step self wait ⌝ }
     {
         if self.stops() {
-            return self.moved(Track::STOPPED, self.home(), Passes(0), true);
+            return self.moved(Track::STOPPED, self.home(), Passes(0), Track::DUE);
         }
         let l = self.arrival();
         let passes = self.passes_at(l);
         if wait {
-            self.moved(Track::WAITING, l, passes, false)
+            self.moved(Track::WAITING, l, passes, Track::VISITED)
         } else {
-            self.moved(self.mode, l, passes, false)
+            self.moved(self.mode, l, passes, Track::VISITED)
         }
     }
 }

@@ -15,9 +15,9 @@ pub struct Track {
     pub passes: u32,
     pub loops: u16,
     pub mode: u8,
-    pub backward: bool,
-    pub repeat: bool,
-    pub due: bool,
+    pub direction: u8,
+    pub repeat: u8,
+    pub due: u8,
     pub actions: [u8; 16],
 }
 
@@ -90,10 +90,10 @@ impl Track {
     pub fn numbers(&self) -> [u64; 27] {
         let mut numbers = [0; 27];
         let words = [self.min, self.max, self.start, self.end, self.position, self.passes];
-        let flags = [self.backward, self.repeat, self.due].map(u64::from);
+        let bytes = [self.mode, self.direction, self.repeat, self.due];
         numbers[..6].copy_from_slice(&words.map(u64::from));
-        numbers[6..8].copy_from_slice(&[self.loops.into(), self.mode.into()]);
-        numbers[8..11].copy_from_slice(&flags);
+        numbers[6] = self.loops.into();
+        numbers[7..11].copy_from_slice(&bytes.map(u64::from));
         numbers[11..].copy_from_slice(&self.actions.map(u64::from));
         numbers
     }

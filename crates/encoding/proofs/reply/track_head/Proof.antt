@@ -1,6 +1,8 @@
 use Rattle.encoding.proofs.reply.track_head.Statement.{statement}
 use Rattle.encoding.proofs.reply.track_head.Tie as tie
 use borrow.Author.Needs.{needs}
+use mathlib.Core.Path.{refl}
+use native.Mathlib.Omega.{arith}
 
 array-write-row : tie.Need-array-write-row
 array-write-row c = search needs
@@ -53,26 +55,26 @@ cast-row-8 c = search needs
 array-write-row-9 : tie.Need-array-write-row-9
 array-write-row-9 c = search needs
 
-bit-requires : tie.Need-bit-requires
-bit-requires c κs = search needs
+cast-row-9 : tie.Need-cast-row-9
+cast-row-9 c = omega (arith, c .struct-known9 .given .1 .1 .1 .1 .1 .1 .1 .1 .0)
 
 array-write-row-10 : tie.Need-array-write-row-10
 array-write-row-10 c = search needs
 
-bit-requires-2 : tie.Need-bit-requires-2
-bit-requires-2 c κs = search needs
+cast-row-10 : tie.Need-cast-row-10
+cast-row-10 c = omega (arith, c .struct-known10 .given .1 .1 .1 .1 .1 .1 .1 .1 .1 .0)
 
 array-write-row-11 : tie.Need-array-write-row-11
 array-write-row-11 c = search needs
 
-bit-requires-3 : tie.Need-bit-requires-3
-bit-requires-3 c κs = search needs
+cast-row-11 : tie.Need-cast-row-11
+cast-row-11 c = omega (arith, c .struct-known11 .given .1 .1 .1 .1 .1 .1 .1 .1 .1 .1 .0)
 
 array-write-row-12 : tie.Need-array-write-row-12
 array-write-row-12 c = search needs
 
 returns : tie.Need-returns
-returns c = rw (c .before .before .bit .ensures, c .before .bit2 .ensures, c .bit3 .ensures)
+returns c = refl
 
 pub track-head-spec : {M : Type 1} → statement M
 track-head-spec =
@@ -95,10 +97,10 @@ track-head-spec =
     array-write-row-8
     cast-row-8
     array-write-row-9
-    bit-requires
+    cast-row-9
     array-write-row-10
-    bit-requires-2
+    cast-row-10
     array-write-row-11
-    bit-requires-3
+    cast-row-11
     array-write-row-12
     returns)

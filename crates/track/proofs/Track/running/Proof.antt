@@ -12,7 +12,7 @@ stop-step-requires : tie.Need-stop-step-requires
 stop-step-requires c κs = search needs
 
 sub-before : tie.Need-sub-before
-sub-before c = omega (arith, stop-later (c .before .before .args .self) (c .before .before .pre))
+sub-before c = omega (arith, stop-later (c .before .before .before .args .self) (c .before .before .before .pre))
 
 cast-if2 : tie.Need-cast-if2
 cast-if2 c = search needs

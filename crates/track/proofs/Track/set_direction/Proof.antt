@@ -1,4 +1,4 @@
-use Rattle.track.proofs.Numbers.{told, natural-out, natural-take}
+use Rattle.track.proofs.Numbers.{told, natural-in, natural-out, natural-take}
 use Rattle.track.proofs.Track.set_direction.Statement.{statement}
 use Rattle.track.proofs.Track.set_direction.Tie as tie
 use Rattle.track.specs.Number.{naturalOf}
@@ -7,6 +7,7 @@ use Rattle.track.specs.declared.number.Natural.{Natural}
 use borrow.Author.Needs.{needs}
 use borrow.Author.Tests.{eq-eqb, ne-eqb}
 use lib.IntN.{ℤ}
+use mir.Facts.{fits-below}
 use mathlib.Core.Path.{_∙_, ap}
 
 abbrev at : ℤ → Natural
@@ -27,6 +28,11 @@ refused-requires c κs = search needs
 returns : tie.Need-returns
 unfolding directionSet
 returns c = natural-out _ _ _ (told at (c .before .before .before .before .fits .d) (c .before .before .before .in-range .ensures) (c .before .enum-told .given .1)) (c .refused .ensures)
+
+cast-next : tie.Need-cast-next
+cast-next c =
+    let s = c .before .before .before .before in
+    fits-below tt (natural-in _ 0 1 (told at (s .fits .d) (c .before .before .before .in-range .ensures) (c .before .k .given .1)) .2)
 
 rewound-requires : tie.Need-rewound-requires
 rewound-requires c κs = search needs
@@ -58,6 +64,7 @@ set-direction-spec =
     enum-told
     refused-requires
     returns
+    cast-next
     rewound-requires
     accepted-requires
     returns-2

@@ -1,4 +1,4 @@
-use Rattle.track.proofs.Numbers.{told, natural-out, natural-take}
+use Rattle.track.proofs.Numbers.{told, natural-in, natural-out, natural-take}
 use Rattle.track.proofs.Track.set_repeat.Statement.{statement}
 use Rattle.track.proofs.Track.set_repeat.Tie as tie
 use Rattle.track.specs.Number.{naturalOf}
@@ -6,6 +6,7 @@ use Rattle.track.specs.Setup.{repeatSet}
 use Rattle.track.specs.declared.number.Natural.{Natural}
 use borrow.Author.Needs.{needs}
 use lib.IntN.{ℤ}
+use mir.Facts.{fits-below}
 
 abbrev at : ℤ → Natural
 at z = naturalOf z 0 1
@@ -26,6 +27,11 @@ returns : tie.Need-returns
 unfolding repeatSet
 returns c = natural-out _ _ _ (told at (c .before .before .before .before .fits .f) (c .before .before .before .in-range .ensures) (c .before .enum-told .given .1)) (c .refused .ensures)
 
+cast-next : tie.Need-cast-next
+cast-next c =
+    let s = c .before .before .before .before in
+    fits-below tt (natural-in _ 0 1 (told at (s .fits .f) (c .before .before .before .in-range .ensures) (c .before .k .given .1)) .2)
+
 accepted-requires : tie.Need-accepted-requires
 accepted-requires c κs = search needs
 
@@ -42,5 +48,6 @@ set-repeat-spec =
     enum-told
     refused-requires
     returns
+    cast-next
     accepted-requires
     returns-2)

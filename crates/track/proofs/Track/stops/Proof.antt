@@ -22,7 +22,7 @@ cast-result : tie.Need-cast-result
 cast-result c = search needs
 
 returns-3 : tie.Need-returns-3
-returns-3 c = stops-last _ (c .before .before .before .before .before .before .before .before .arrival .ensures) (c .before .before .before .before .before .before .before .far .ensures) (c .before .before .before .before .before .before .passes-at .ensures) (c .before .before .before .if1 .left) (c .before .before .if2 .left)
+returns-3 c = stops-last _ (c .before .before .before .before .before .before .before .before .before .arrival .ensures) (c .before .before .before .before .before .before .before .before .far .ensures) (c .before .before .before .before .before .before .before .passes-at .ensures) (c .before .before .before .before .if1 .left) (c .before .before .if2 .left)
 
 pub stops-spec : {M : Type 1} → statement M
 stops-spec =

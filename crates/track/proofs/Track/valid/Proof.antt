@@ -1,4 +1,4 @@
-use Rattle.track.proofs.Checks.{valid-of, valid-not-ordered, valid-diagonal}
+use Rattle.track.proofs.Checks.{valid-of, valid-not-ordered, valid-cells}
 use Rattle.track.proofs.Tests.{refuted}
 use Rattle.track.proofs.Track.valid.Statement.{statement}
 use Rattle.track.proofs.Track.valid.Tie as tie
@@ -19,13 +19,24 @@ returns-2 c = refuted _ (λ h. omega (arith, valid-of _ h))
 returns-3 : tie.Need-returns-3
 returns-3 c = refuted _ (λ h. omega (arith, valid-of _ h))
 
-diagonal-requires : tie.Need-diagonal-requires
-diagonal-requires c κs = search needs
-
 returns-4 : tie.Need-returns-4
-returns-4 c =
-    c .diagonal .ensures ∙ valid-diagonal _ (sym (c .before .before .before .before .before .before .ordered .ensures) ∙ not-false _ (c .before .before .before .before .before .if1 .left)) (omega arith) (omega arith)
+returns-4 c = refuted _ (λ h. omega (arith, valid-of _ h))
+
+returns-5 : tie.Need-returns-5
+returns-5 c = refuted _ (λ h. omega (arith, valid-of _ h))
+
+returns-6 : tie.Need-returns-6
+returns-6 c = refuted _ (λ h. omega (arith, valid-of _ h))
+
+cells-kept-requires : tie.Need-cells-kept-requires
+cells-kept-requires c κs = search needs
+
+returns-7 : tie.Need-returns-7
+returns-7 c =
+    let s = c .before .before .before .before .before .before .before .before .before .before .before in
+    valid-cells _ (s .before .ordered .ensures) (not-false _ (s .if1 .left)) (omega arith) (omega arith) (omega arith) (omega arith) (omega arith)
+    (c .cells-kept .ensures)
 
 pub valid-spec : {M : Type 1} → statement M
 valid-spec =
-    tie.close (tie.spec ordered-requires returns returns-2 returns-3 diagonal-requires returns-4)
+    tie.close (tie.spec ordered-requires returns returns-2 returns-3 returns-4 returns-5 returns-6 cells-kept-requires returns-7)
