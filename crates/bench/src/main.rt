@@ -1,5 +1,5 @@
 // A bench for boards: lines of numbers are calls, done one after another, and their replies are printed as
-// numbers. `#` begins a title. Codes 1 to 20 are the calls (crate encoding, call.rt). Other codes:
+// numbers. `#` begins a title. Codes 1 to 20 are the calls (board, row.rt). Other codes:
 //   0 L          a fresh board, and a log of L bytes, each 165
 //   30 to 47     a field set by force (poke.rt)
 //   50           the held records, then end,clock,held
@@ -20,9 +20,9 @@ use crate::show::refusal;
 use crate::show::reply;
 use crate::show::text;
 use board::Board;
-use calls::row::do_row;
-use encoding::call::CALL_WIDTH;
-use encoding::reply::REPLY_WIDTH;
+use board::row::CALL_WIDTH;
+use board::row::REPLY_WIDTH;
+use board::row::do_row;
 use libc::STDIN_FILENO;
 ghost use Prim.Native.Nat.{_≤_};
 ghost use mathlib.Core.Path.{_≡_};

@@ -1,6 +1,6 @@
 // One field of a board set by force, whether or not its rules are kept.
 use board::Board;
-use points::Points;
+use board::points::Points;
 use track::Track;
 use track::number::Natural;
 use track::number::in_range;

@@ -1,5 +1,5 @@
 // Lines of the input, and the numbers of a line.
-use encoding::call::CALL_WIDTH;
+use board::row::CALL_WIDTH;
 ghost use mathlib.Core.Path.{_≡_};
 ghost use Prim.Native.Nat.{_+_, _≤_, min};
 ghost use lib.ListN.{length};

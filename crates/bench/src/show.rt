@@ -1,11 +1,11 @@
 // What is printed: replies as their numbers, and a log's records.
 use board::Board;
-use encoding::reply::REPLY_WIDTH;
+use board::log::Record;
+use board::log::Unpacked;
+use board::log::pack;
+use board::log::unpack;
+use board::row::REPLY_WIDTH;
 use libc::STDOUT_FILENO;
-use record::Record;
-use record::Unpacked;
-use record::pack;
-use record::unpack;
 use track::Coordinate;
 use track::Passes;
 use track::Ticks;

@@ -1,5 +1,2 @@
-pub mod Broken
-pub mod Passing
-pub mod Guards
-pub mod Ways
-pub mod Keeping
+pub mod replay
+pub mod premo

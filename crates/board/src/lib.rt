@@ -1,14 +1,24 @@
 // A board: tracks side by side, their points, one clock and the number of records held in one log.
-use points::Points;
+use crate::points::Points;
 use track::Coordinate;
 use track::Ticks;
 use track::Track;
 ghost use mathlib.Core.Path.{_≡_};
-ghost use Rattle.board.specs.Rule.{freshBoard};
+ghost use Rattle.board.specs.Board.{freshBoard};
 
+pub mod advance;
+pub mod apply;
+pub mod call;
+pub mod lists;
+pub mod log;
+pub mod mode;
+pub mod points;
 pub mod query;
-pub mod rules;
+mod quiet;
+pub mod row;
+mod rules;
 pub mod setup;
+mod tick;
 
 #[repr(C)]
 pub struct Board {

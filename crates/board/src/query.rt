@@ -1,9 +1,9 @@
 // What can be asked of a board.
 use crate::Board;
+use crate::points::Point;
+use crate::points::Points;
 use crate::rules::found;
 use crate::rules::unbroken;
-use points::Point;
-use points::Points;
 use track::Coordinate;
 use track::Ticks;
 use track::Track;
@@ -13,7 +13,7 @@ use track::number::clamped;
 use track::setup::Answer;
 ghost use mathlib.Core.Path.{_≡_};
 ghost use Prim.Native.Nat.{_-_};
-ghost use Rattle.board.specs.Calls.{clockOf, trackOf, pointIn, countIn};
+ghost use Rattle.board.specs.Query.{clockOf, trackOf, pointIn, countIn};
 
 // Clock and held.
 pub enum ClockRead {

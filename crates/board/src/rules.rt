@@ -1,7 +1,7 @@
 // What makes a lent board broken.
 use crate::Board;
-use points::Point;
-use points::Points;
+use crate::points::Point;
+use crate::points::Points;
 use track::Ticks;
 use track::Track;
 use track::number::Natural;
@@ -9,14 +9,13 @@ use track::number::in_range;
 ghost use mathlib.Core.Path.{_≡_};
 ghost use Prim.Native.Nat.{_+_, _^_, _≤_, _<_};
 ghost use lib.ListN.{length, take};
-ghost use Rattle.points.specs.Points.{pointMost};
-ghost use Rattle.board.specs.Rule.{trackCount, isPresent, tracksTest, placeTest, deedTest, pointsTest, unbrokenParts};
-ghost use Rattle.board.specs.Calls.{foundIn};
+ghost use Rattle.board.specs.Points.{pointMost};
+ghost use Rattle.board.specs.Board.{trackCount, isPresent, tracksTest, placeTest, deedTest, pointsTest, unbrokenParts, foundIn};
 ghost use Rattle.track.specs.Rule.{soundTest};
 ghost use mathlib.Core.Bool.{false, not, _||_};
 
 // Whether a track is present.
-pub fn is_present(present: u16, track: u32) -> bool
+pub(crate) fn is_present(present: u16, track: u32) -> bool
     ensures { λ r. ⌜ r ≡ isPresent present track ⌝ }
 {
     if Board::LAST < track {
@@ -26,7 +25,7 @@ pub fn is_present(present: u16, track: u32) -> bool
 }
 
 // The word with one track more.
-pub fn with_track(present: u16, track: u32) -> u16
+pub(crate) fn with_track(present: u16, track: u32) -> u16
     requires { ⌜ isPresent present track ≡ false ⌝ }
     requires { ⌜ track < trackCount ⌝ }
     ensures { λ r. ⌜ r ≡ present + 2 ^ track ⌝ }
@@ -35,7 +34,7 @@ pub fn with_track(present: u16, track: u32) -> u16
 }
 
 // The number of a present track.
-pub fn found(present: u16, track: i64) -> Natural
+pub(crate) fn found(present: u16, track: i64) -> Natural
     ensures { λ r. ⌜ r ≡ foundIn present track ⌝ }
 {
     let Natural::In(i) = in_range(track, 0, Board::LAST) else {
@@ -88,7 +87,7 @@ fn placed(present: u16, owner: Track, p: Point) -> bool
 }
 
 // Whether a point's event, command and target are what they may be.
-pub fn able(present: u16, p: Point) -> bool
+pub(crate) fn able(present: u16, p: Point) -> bool
     ensures { λ r. ⌜ r ≡ deedTest present p ⌝ }
 {
     let event = p.event;
@@ -149,7 +148,7 @@ fn points_kept<'a>(
 }
 
 // Whether a board, given by its parts, keeps every range and rule of its tracks, points and clock.
-pub fn unbroken<'a>(
+pub(crate) fn unbroken<'a>(
     tracks: [Track; Board::TRACKS],
     present: u16,
     clock: Ticks,

@@ -1,12 +1,12 @@
 // The calls that set a board up, and clear.
 use crate::Board;
+use crate::points::Point;
+use crate::points::Points;
 use crate::rules::able;
 use crate::rules::found;
 use crate::rules::is_present;
 use crate::rules::unbroken;
 use crate::rules::with_track;
-use points::Point;
-use points::Points;
 use track::Coordinate;
 use track::Track;
 use track::number::Natural;
@@ -17,7 +17,7 @@ use track::setup::Change;
 use track::setup::settled;
 ghost use mathlib.Core.Path.{_≡_};
 ghost use Prim.Native.Nat.{_<_};
-ghost use Rattle.board.specs.Calls.{refused, accepted, setUp, addTrack, drawnFrom, setPoint, dropPoint, clearBoard};
+ghost use Rattle.board.specs.Setup.{refused, accepted, setUp, addTrack, drawnFrom, setPoint, dropPoint, clearBoard};
 
 // The answer to a call, and the board after it.
 pub struct Outcome {

@@ -5,13 +5,12 @@ use mathlib.Core.List.{List}
 use mathlib.Core.Option.{Option}
 use Rattle.track.specs.declared.Track.{Track}
 use Rattle.board.specs.declared.Board.{Board}
-use Rattle.replay.specs.Replay.{World}
-use Rattle.motion.specs.declared.call.Call.{Call}
-use Rattle.motion.specs.Does.{Gives}
-use Rattle.encoding.specs.declared.told.Told.{Told}
-use Rattle.encoding.specs.declared.call.Coded.{Coded}
-use Rattle.encoding.specs.Told.{replyOf}
-use Rattle.encoding.specs.Encoded.{codedAs, numbersOf, rowDoes}
+use Rattle.board.specs.Replay.{World}
+use Rattle.board.specs.declared.call.Call.{Call}
+use Rattle.board.specs.Call.{Gives, replyOf}
+use Rattle.board.specs.declared.call.Told.{Told}
+use Rattle.board.specs.declared.row.Coded.{Coded}
+use Rattle.board.specs.Row.{codedAs, numbersOf, rowDoes}
 use Rattle.firmware.specs.Door.{RowGives}
 
 pub door-answers : (row : Coded) (o : Option Call) (w : World Board) (told : Told) (track : Track) (board : Board) (reply log : List ℕ)

@@ -28,8 +28,8 @@ use Rattle.track.specs.declared.Track.{Track}
 use Rattle.track.proofs.Track as track-type
 use Rattle.track.proofs.Track.Laws as track-laws
 use Rattle.board.specs.declared.Board.{Board}
-use Rattle.board.specs.Rule.{noTrack}
-use Rattle.board.specs.Calls.{boardWith}
+use Rattle.board.specs.Board.{noTrack}
+use Rattle.board.specs.Setup.{boardWith}
 use Rattle.board.proofs.Board as board-type
 use Rattle.board.proofs.Board.Laws as board-laws
 use Rattle.firmware.proofs.Fields.{Tracks, tracksTy, boardVal, boardVals, tracks-is}

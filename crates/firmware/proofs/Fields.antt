@@ -19,8 +19,8 @@ use denote.Builtin.{u16, u32, u64}
 use denote.Plain.{uint-lawful}
 use denote.Struct.Declared.{fields}
 use denote.Struct.Laws as laws
-use Rattle.points.proofs.Points as points-type
-use Rattle.points.proofs.Points.Laws as points-laws
+use Rattle.board.proofs.points.Points as points-type
+use Rattle.board.proofs.points.Points.Laws as points-laws
 use Rattle.track.proofs.Track as track-type
 use Rattle.track.proofs.Track.Laws as track-laws
 use Rattle.track.proofs.Ticks as ticks-type

@@ -57,8 +57,8 @@ use Rattle.track.proofs.Ticks.Laws as ticks-laws
 use Rattle.board.specs.declared.Board.{Board}
 use Rattle.board.proofs.Board as board-type
 use Rattle.board.proofs.Board.Laws as board-laws
-use Rattle.motion.specs.declared.call.Call.{Call}
-use Rattle.motion.specs.Does.{Reply, Gives, does, world}
+use Rattle.board.specs.declared.call.Call.{Call}
+use Rattle.board.specs.Call.{Reply, Gives, does, world}
 use Rattle.firmware.proofs.Fields.{Tracks, boardVal, boardVals, pointsVals, tracks-is, present-is, keys-is, infos-is}
 use Rattle.firmware.proofs.Fields.{count-is, clock-is, held-is, tracks-typed, present-typed, count-typed, clock-typed, held-typed}
 use Rattle.firmware.proofs.Rows.{keysAt, infosAt, rowRef, keysOwn, infosOwn, lentRows, rows-lent, rows-back}

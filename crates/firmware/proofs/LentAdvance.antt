@@ -35,14 +35,15 @@ use denote.Triple.Table.{cited}
 use Rattle.board.specs.declared.Board.{Board}
 use Rattle.board.proofs.Board as board-type
 use Rattle.board.proofs.Board.Laws as board-laws
-use Rattle.motion.specs.declared.advance.Advanced.{Advanced}
-use Rattle.motion.specs.declared.advance.Left.{Left}
-use Rattle.motion.specs.declared.call.Call.the-variants.{Advance}
-use Rattle.motion.specs.Does.{Gives, does, world, advancedSaid, boardLeft}
-use Rattle.motion.proofs.advance.Advanced as advanced-type
-use Rattle.motion.proofs.advance.Advanced.Laws as advanced-laws
-use Rattle.motion.proofs.advance.Left as left-type
-use Rattle.motion.proofs.advance.Left.Laws as left-laws
+use Rattle.board.specs.declared.call.Advanced.{Advanced}
+use Rattle.board.specs.declared.advance.Left.{Left}
+use Rattle.board.specs.declared.call.Call.the-variants.{Advance}
+use Rattle.board.specs.Call.{Gives, does, world, advancedSaid}
+use Rattle.board.specs.Advance.{boardLeft}
+use Rattle.board.proofs.call.Advanced as advanced-type
+use Rattle.board.proofs.call.Advanced.Laws as advanced-laws
+use Rattle.board.proofs.advance.Left as left-type
+use Rattle.board.proofs.advance.Left.Laws as left-laws
 use Rattle.firmware.specs.declared.value.Ending.{Ending}
 use Rattle.firmware.specs.Numbers.{endingSaid}
 use Rattle.firmware.proofs.value.Ending as ending-type

@@ -24,14 +24,14 @@ use denote.Triple.Spec.{tripleOf}
 use denote.Triple.Statement.{Contract}
 use denote.Triple.Clauses.{Ended, Clauses, closing}
 use denote.Exit.{yes}
-use Rattle.points.specs.Points.{pointMost}
+use Rattle.board.specs.Points.{pointMost}
 use Rattle.track.proofs.Track as track-type
 use Rattle.track.proofs.Ticks as ticks-type
 use Rattle.track.proofs.Ticks.Laws as ticks-laws
 use Rattle.board.specs.declared.Board.{Board}
 use Rattle.board.proofs.Board as board-type
 use Rattle.board.proofs.Board.Laws as board-laws
-use Rattle.mode.specs.Ruling.{boardOf}
+use Rattle.board.specs.Board.{boardOf}
 use Rattle.firmware.proofs.Fields.{tracksTy, rowTy}
 
 abbrev pub Lent : RattleType

@@ -4,12 +4,12 @@ use mathlib.Core.List.{List, [], _∷_}
 use lib.IntN.{ℤ}
 use contract.Lifetimes.{Lfts}
 use Rattle.board.specs.declared.Board.{Board}
-use Rattle.board.specs.Rule.{freshBoard}
-use Rattle.replay.specs.Replay.{World}
-use Rattle.motion.specs.declared.call.Call.{Call}
-use Rattle.motion.specs.declared.call.Call.the-variants as call
-use Rattle.motion.specs.Does.{Reply, world}
-use Rattle.lists.proofs.Lists.{Step, Trace, nothing, then, Demand3, demand-3, gives-step}
+use Rattle.board.specs.Board.{freshBoard}
+use Rattle.board.specs.Replay.{World}
+use Rattle.board.specs.declared.call.Call.{Call}
+use Rattle.board.specs.declared.call.Call.the-variants as call
+use Rattle.board.specs.Call.{Reply, world}
+use Rattle.board.proofs.lists.Replayed.{Step, Trace, nothing, then, Demand3, demand-3, gives-step}
 use Rattle.firmware.specs.declared.value.Ending.{Ending}
 use Rattle.firmware.specs.Numbers.{numberSaid, endingSaid}
 use Rattle.firmware.proofs.Lent.{promised}

@@ -35,7 +35,7 @@ use Rattle.track.proofs.Track.Laws as track-laws
 use Rattle.board.specs.declared.Board.{Board}
 use Rattle.board.proofs.Board as board-type
 use Rattle.board.proofs.Board.Laws as board-laws
-use Rattle.motion.specs.declared.call.Call.{Call}
+use Rattle.board.specs.declared.call.Call.{Call}
 use Rattle.firmware.specs.declared.value.Answered.{Answered}
 use Rattle.firmware.specs.Numbers.{boardBy, numberSaid, Answers}
 use Rattle.firmware.proofs.value.Answered as answered-type

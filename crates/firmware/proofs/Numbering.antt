@@ -11,14 +11,14 @@ use Rattle.track.specs.Grid.{gridOf}
 use Rattle.track.proofs.Tests.{cond-cases}
 use Rattle.board.specs.declared.Board.{Board}
 use Rattle.board.specs.declared.setup.Outcome.{Outcome}
-use Rattle.board.specs.Rule.{trackAt, unbrokenTest}
-use Rattle.board.specs.Calls.{foundIn}
-use Rattle.board.proofs.Ways.{by-natural}
-use Rattle.replay.specs.Cut.{Did}
-use Rattle.replay.specs.Replay.{World}
-use Rattle.mode.specs.Ruling.{Ruling, capacity, declined, callRecords, changesTo, decided, modeRuling, Follows}
-use Rattle.mode.proofs.Rulings.{follows-told}
-use Rattle.motion.specs.Does.{Reply, answered, Gives}
+use Rattle.board.specs.Board.{trackAt, unbrokenTest, foundIn}
+use Rattle.board.proofs.setup.Ways.{by-natural}
+use Rattle.board.specs.Cut.{Did}
+use Rattle.board.specs.Replay.{World}
+use Rattle.board.specs.Mode.{Ruling, declined, callRecords, changesTo, decided, modeRuling, Follows}
+use Rattle.board.specs.Log.{capacity}
+use Rattle.board.proofs.mode.Rulings.{follows-told}
+use Rattle.board.specs.Call.{Reply, answered, Gives}
 use Rattle.firmware.specs.Numbers.{numberOf, numberSaid, answerOf}
 
 -- what a ruling answers is said by its number: 3, 7, 1, 2 and 8 are no 0

@@ -3,10 +3,10 @@ use Prim.Native.Nat.{ℕ}
 use mathlib.Core.Path.{_≡_}
 use mathlib.Core.List.{List}
 use Rattle.board.specs.declared.Board.{Board}
-use Rattle.replay.specs.Cut.{Did}
-use Rattle.replay.specs.Replay.{World}
-use Rattle.motion.specs.Does.{Reply}
-use Rattle.encoding.specs.Encoded.{numbersOf}
+use Rattle.board.specs.Cut.{Did}
+use Rattle.board.specs.Replay.{World}
+use Rattle.board.specs.Call.{Reply}
+use Rattle.board.specs.Row.{numbersOf}
 use Rattle.firmware.specs.declared.door.Replied.{Replied}
 
 -- the numbers of the reply, the board and every log byte are those that a row gives

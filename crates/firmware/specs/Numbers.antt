@@ -7,11 +7,11 @@ use Rattle.track.specs.declared.setup.Answer.{Answer}
 use Rattle.track.specs.declared.setup.Answer.the-variants as answer
 use Rattle.board.specs.declared.Board.{Board}
 use Rattle.board.specs.declared.setup.Outcome.{Outcome}
-use Rattle.board.specs.Rule.{trackCount}
-use Rattle.board.specs.Calls.{boardWith}
-use Rattle.mode.specs.Ruling.{Follows, modeRuling}
-use Rattle.motion.specs.declared.call.Call.{Call}
-use Rattle.motion.specs.Does.{Reply, accepted, refused, done, logFull, clockEnded, Gives, does, world}
+use Rattle.board.specs.Board.{trackCount}
+use Rattle.board.specs.Setup.{boardWith}
+use Rattle.board.specs.Mode.{Follows, modeRuling}
+use Rattle.board.specs.declared.call.Call.{Call}
+use Rattle.board.specs.Call.{Reply, accepted, refused, done, logFull, clockEnded, Gives, does, world}
 use Rattle.firmware.specs.declared.value.Answered.{Answered}
 use Rattle.firmware.specs.declared.value.Ending.{Ending}
 

@@ -1,14 +1,14 @@
 // One door for every call and query, by its row of numbers, and for an encoded list of them.
 use board::Board;
-use calls::row::answer;
-use encoding::call::call_of;
-use encoding::reply::REPLY_WIDTH;
-use encoding::reply::reply_row;
-use lists::run_calls;
+use board::lists::run_calls;
+use board::row::REPLY_WIDTH;
+use board::row::answer;
+use board::row::call_of;
+use board::row::reply_row;
 ghost use mathlib.Core.Path.{_≡_};
-ghost use Rattle.motion.specs.Does.{world};
-ghost use Rattle.encoding.specs.Encoded.{callOf, rowDoes};
-ghost use Rattle.lists.specs.Executed.{Executed};
+ghost use Rattle.board.specs.Call.{world};
+ghost use Rattle.board.specs.Row.{callOf, rowDoes};
+ghost use Rattle.board.specs.Lists.{Executed};
 ghost use Rattle.firmware.specs.Door.{RowGives};
 
 // The board after a call, and the numbers of its reply.

@@ -1,13 +1,13 @@
 // The mode calls and advance over the one board that the firmware keeps and lends to every call, exported for C and Rust. There a
 // board is passed as a pointer, and a log as a pointer and a length.
-use advance::proceed;
 use board::Board;
+use board::advance::proceed;
 use value::Ending;
 use value::ending_of;
 ghost use mathlib.Core.Path.{_≡_};
-ghost use Rattle.board.specs.Rule.{freshBoard};
-ghost use Rattle.motion.specs.Does.{Gives, does, world};
-ghost use Rattle.motion.specs.declared.call.Call.the-variants as call;
+ghost use Rattle.board.specs.Board.{freshBoard};
+ghost use Rattle.board.specs.Call.{Gives, does, world};
+ghost use Rattle.board.specs.declared.call.Call.the-variants as call;
 ghost use Rattle.firmware.specs.Numbers.{numberSaid, endingSaid};
 
 pub mod door;

@@ -1,16 +1,16 @@
 // The same calls on a board that is given by its parts, with answers that are numbers.
 use board::Board;
-use mode::judge;
-use motion::advance::Advanced;
+use board::call::Advanced;
+use board::mode::judge;
 use track::Ticks;
 use track::Track;
 use track::setup::Answer;
 ghost use mathlib.Core.Path.{_≡_};
 ghost use lib.ListN.{length};
-ghost use Rattle.points.specs.Points.{pointMost};
-ghost use Rattle.mode.specs.Ruling.{boardOf};
-ghost use Rattle.motion.specs.Does.{advancedSaid};
-ghost use Rattle.motion.specs.declared.call.Call.the-variants as call;
+ghost use Rattle.board.specs.Points.{pointMost};
+ghost use Rattle.board.specs.Board.{boardOf};
+ghost use Rattle.board.specs.Call.{advancedSaid};
+ghost use Rattle.board.specs.declared.call.Call.the-variants as call;
 ghost use Rattle.firmware.specs.Numbers.{Rules, Answers, numberOf, endingSaid};
 
 // How an advance ended: the reason, with the ticks taken or, for a refusal, its number.

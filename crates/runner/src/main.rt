@@ -2,12 +2,12 @@
 // A read that fails ends the input; what was read of it is done.
 use libc::STDIN_FILENO;
 use libc::STDOUT_FILENO;
-use output::Out;
-use output::line::end_line;
-use output::records::show;
-use script::Session;
-use script::feed;
-use script::finish;
+use script::output::end_line;
+use script::output::show;
+use script::run::Session;
+use script::run::feed;
+use script::run::finish;
+use script::text::Out;
 ghost use Prim.Native.Nat.{_≤_};
 ghost use mathlib.Core.List.{[]};
 ghost use lib.ListN.{length};

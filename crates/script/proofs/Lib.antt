@@ -1,3 +1,0 @@
-pub mod Runs
-pub mod Cards
-pub mod Numbers

@@ -5,18 +5,19 @@ use mathlib.Core.List.{List, [], _∷_, _++_, map}
 use mathlib.Core.Option.{Option}
 use lib.ListN.{length, take, drop}
 use Rattle.board.specs.declared.Board.{Board}
-use Rattle.board.specs.Rule.{freshBoard}
-use Rattle.replay.specs.Cut.{All}
-use Rattle.replay.specs.Replay.{World}
-use Rattle.motion.specs.declared.call.Call.{Call}
-use Rattle.motion.specs.Does.{Reply, world}
-use Rattle.encoding.specs.Encoded.{rowsDo}
-use Rattle.lines.specs.Lines.{linesOf, numberAfter, numberBehind, linesIn, openAfter, lastLine, keptBy}
-use Rattle.grammar.specs.Grammar.{lineCall}
-use Rattle.output.specs.Output.{noteOf, recordLines, endLine, textOf}
-use Rattle.script.specs.declared.Session.{Session}
-use Rattle.script.specs.declared.Fed.{Fed}
-use Rattle.script.specs.declared.Ended.{Ended}
+use Rattle.board.specs.Board.{freshBoard}
+use Rattle.board.specs.Cut.{All}
+use Rattle.board.specs.Replay.{World}
+use Rattle.board.specs.declared.call.Call.{Call}
+use Rattle.board.specs.Call.{Reply, world}
+use Rattle.board.specs.Row.{rowsDo}
+use Rattle.script.specs.Lines.{linesOf, numberAfter, numberBehind, linesIn, openAfter, lastLine, keptBy}
+use Rattle.script.specs.Grammar.{lineCall}
+use Rattle.script.specs.Output.{noteOf, recordLines, endLine}
+use Rattle.script.specs.Text.{textOf}
+use Rattle.script.specs.declared.run.Session.{Session}
+use Rattle.script.specs.declared.run.Fed.{Fed}
+use Rattle.script.specs.declared.run.Ended.{Ended}
 
 -- ---- what 01 says
 

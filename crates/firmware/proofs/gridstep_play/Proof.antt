@@ -1,5 +1,5 @@
 use mathlib.Core.Path.{refl}
-use Rattle.motion.specs.declared.call.Call.the-variants.{Play}
+use Rattle.board.specs.declared.call.Call.the-variants.{Play}
 use Rattle.firmware.proofs.LentMode.{mode-spec}
 use Rattle.firmware.proofs.value.play.Symbol as core
 use Rattle.firmware.proofs.value.play.Met as core-thm

@@ -1,5 +1,5 @@
 use mathlib.Core.Path.{refl}
-use Rattle.motion.specs.declared.call.Call.the-variants.{Resume}
+use Rattle.board.specs.declared.call.Call.the-variants.{Resume}
 use Rattle.firmware.proofs.LentMode.{mode-spec}
 use Rattle.firmware.proofs.value.resume.Symbol as core
 use Rattle.firmware.proofs.value.resume.Met as core-thm

@@ -1,4 +1,4 @@
-use Rattle.script.proofs.Runs.{went-none, went-on, went-all}
+use Rattle.script.proofs.run.Runs.{went-none, went-on, went-all}
 use Rattle.script.specs.Run.{Went}
 use native.Mathlib.Omega.{arith}
 use Prim.Native.Nat.{_≤_, _-_}

@@ -1,19 +1,18 @@
 use Prim.Native.Nat.{_<_}
 use Rattle.board.proofs.Board.add_track.Statement.{statement}
 use Rattle.board.proofs.Board.add_track.Tie as tie
-use Rattle.board.proofs.Broken.{Shaped}
-use Rattle.board.proofs.Guards.{track-added}
-use Rattle.board.proofs.Passing.{length-mapped}
-use Rattle.board.specs.Calls.{addTrack, accepted}
-use Rattle.board.specs.Rule.{unbrokenTest}
+use Rattle.board.proofs.rules.Broken.{Shaped}
+use Rattle.board.proofs.setup.Guards.{track-added}
+use Rattle.board.proofs.rules.Passing.{length-mapped}
+use Rattle.board.specs.Setup.{addTrack, accepted}
+use Rattle.board.specs.Board.{unbrokenTest}
 use Rattle.track.proofs.Numbers.{told, natural-in, natural-out, natural-take, place-out, place-take}
 use Rattle.track.proofs.Tests.{cond-yes, cond-no}
 use Rattle.track.specs.Number.{naturalOf, coordinateOf}
 use Rattle.track.specs.declared.number.Natural.the-variants.{In}
 use Rattle.track.specs.declared.number.Natural.{Natural}
 use borrow.Author.Needs.{needs}
-use borrow.Author.Tests.{lt-ltb, le-ltb}
-use borrow.Author.Tests.{not-true, not-false}
+use borrow.Author.Tests.{lt-ltb, le-ltb, not-true, not-false}
 use lib.IntN.{ℤ}
 use mathlib.Core.Bool.{true}
 use mathlib.Core.Path.{_≡_, _∙_, sym}

@@ -1,7 +1,7 @@
 use Rattle.board.proofs.Board.clear.Statement.{statement}
 use Rattle.board.proofs.Board.clear.Tie as tie
-use Rattle.board.specs.Calls.{clearBoard}
-use Rattle.board.specs.Rule.{unbrokenTest}
+use Rattle.board.specs.Setup.{clearBoard}
+use Rattle.board.specs.Board.{unbrokenTest}
 use Rattle.track.proofs.Tests.{cond-yes, cond-no}
 use borrow.Author.Needs.{needs}
 use borrow.Author.Tests.{not-true, not-false}

@@ -1,11 +1,12 @@
 use Prim.Native.Nat.{_<_, _≤_}
 use Rattle.board.proofs.Board.drop_point.Statement.{statement}
 use Rattle.board.proofs.Board.drop_point.Tie as tie
-use Rattle.board.proofs.Broken.{Shaped, unbroken-of, present-small}
-use Rattle.board.proofs.Guards.{found-in, points-refused, points-put}
-use Rattle.board.proofs.Passing.{length-mapped}
-use Rattle.board.specs.Calls.{foundIn, dropPoint}
-use Rattle.board.specs.Rule.{unbrokenTest, Unbroken}
+use Rattle.board.proofs.rules.Broken.{Shaped, unbroken-of, present-small}
+use Rattle.board.proofs.rules.Present.{found-in}
+use Rattle.board.proofs.setup.Guards.{points-refused, points-put}
+use Rattle.board.proofs.rules.Passing.{length-mapped}
+use Rattle.board.specs.Board.{foundIn, unbrokenTest, Unbroken}
+use Rattle.board.specs.Setup.{dropPoint}
 use Rattle.track.proofs.Numbers.{told, natural-out, natural-take, place-out, place-take, value-coordinate}
 use Rattle.track.proofs.Tests.{cond-yes, cond-no}
 use Rattle.track.specs.Number.{coordinateOf}

@@ -1,6 +1,6 @@
 use Rattle.board.proofs.Board.new.Statement.{statement}
 use Rattle.board.proofs.Board.new.Tie as tie
-use Rattle.board.specs.Rule.{freshBoard}
+use Rattle.board.specs.Board.{freshBoard}
 use borrow.Author.Needs.{needs}
 
 new-requires : tie.Need-new-requires

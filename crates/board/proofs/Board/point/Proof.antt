@@ -1,11 +1,12 @@
 use Prim.Native.Nat.{_<_, _≤_}
 use Rattle.board.proofs.Board.point.Statement.{statement}
 use Rattle.board.proofs.Board.point.Tie as tie
-use Rattle.board.proofs.Broken.{Shaped, unbroken-of, present-small}
-use Rattle.board.proofs.Guards.{found-in, info-small, found-small, point-shown, point-absent}
-use Rattle.board.proofs.Passing.{length-mapped}
-use Rattle.board.specs.Calls.{foundIn, pointIn}
-use Rattle.board.specs.Rule.{unbrokenTest, Unbroken}
+use Rattle.board.proofs.rules.Broken.{Shaped, unbroken-of, present-small}
+use Rattle.board.proofs.rules.Present.{found-in}
+use Rattle.board.proofs.setup.Guards.{info-small, found-small, point-shown, point-absent}
+use Rattle.board.proofs.rules.Passing.{length-mapped}
+use Rattle.board.specs.Board.{foundIn, unbrokenTest, Unbroken}
+use Rattle.board.specs.Query.{pointIn}
 use Rattle.track.proofs.Numbers.{told, natural-out, natural-take, place-out, place-take, value-coordinate}
 use Rattle.track.proofs.Tests.{cond-yes, cond-no}
 use Rattle.track.specs.Number.{coordinateOf}

@@ -1,11 +1,12 @@
 use Prim.Native.Nat.{_<_}
 use Rattle.board.proofs.Board.point_count.Statement.{statement}
 use Rattle.board.proofs.Board.point_count.Tie as tie
-use Rattle.board.proofs.Broken.{Shaped, unbroken-of, present-small}
-use Rattle.board.proofs.Guards.{found-in, counted}
-use Rattle.board.proofs.Passing.{length-mapped}
-use Rattle.board.specs.Calls.{foundIn, countIn}
-use Rattle.board.specs.Rule.{unbrokenTest, Unbroken}
+use Rattle.board.proofs.rules.Broken.{Shaped, unbroken-of, present-small}
+use Rattle.board.proofs.rules.Present.{found-in}
+use Rattle.board.proofs.setup.Guards.{counted}
+use Rattle.board.proofs.rules.Passing.{length-mapped}
+use Rattle.board.specs.Board.{foundIn, unbrokenTest, Unbroken}
+use Rattle.board.specs.Query.{countIn}
 use Rattle.board.specs.declared.query.CountRead.the-variants.{Count}
 use Rattle.track.proofs.Numbers.{told, natural-out, natural-take, clamped-most}
 use Rattle.track.proofs.Tests.{cond-yes, cond-no}

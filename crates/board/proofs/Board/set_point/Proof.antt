@@ -1,12 +1,13 @@
 use Prim.Native.Nat.{_<_, _≤_}
 use Rattle.board.proofs.Board.set_point.Statement.{statement}
 use Rattle.board.proofs.Board.set_point.Tie as tie
-use Rattle.board.proofs.Broken.{Shaped, unbroken-of, present-small}
-use Rattle.board.proofs.Guards.{found-in, drawn-rule, target-below, points-refused, points-put, drawn-bad, drawn-good, drawn-told}
-use Rattle.board.proofs.Passing.{length-mapped}
-use Rattle.board.specs.Calls.{foundIn, drawnFrom, setPoint}
-use Rattle.points.specs.Points.{storedIn}
-use Rattle.board.specs.Rule.{unbrokenTest, Unbroken, PointRule, trackAt}
+use Rattle.board.proofs.rules.Broken.{Shaped, unbroken-of, present-small}
+use Rattle.board.proofs.rules.Present.{found-in, target-below}
+use Rattle.board.proofs.setup.Guards.{drawn-rule, points-refused, points-put, drawn-bad, drawn-good, drawn-told}
+use Rattle.board.proofs.rules.Passing.{length-mapped}
+use Rattle.board.specs.Board.{foundIn, unbrokenTest, Unbroken, PointRule, trackAt}
+use Rattle.board.specs.Setup.{drawnFrom, setPoint}
+use Rattle.board.specs.Points.{storedIn}
 use Rattle.board.specs.declared.setup.Drawn.the-variants.{Good}
 use Rattle.track.proofs.Numbers.{told, natural-out, natural-take}
 use Rattle.track.proofs.Tests.{cond-yes, cond-no}
@@ -14,8 +15,7 @@ use Rattle.track.specs.declared.number.Natural.the-variants.{In}
 use borrow.Author.Needs.{needs}
 use borrow.Author.Tests.{not-true, not-false}
 use mathlib.Core.Bool.{true}
-use mathlib.Core.Path.{_≡_, _∙_, sym}
-use mathlib.Core.Path.{ap₂}
+use mathlib.Core.Path.{_≡_, _∙_, sym, ap₂}
 use native.Mathlib.Omega.{arith}
 
 abbrev start : tie.Else1 → tie.Start

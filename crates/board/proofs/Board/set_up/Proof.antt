@@ -1,11 +1,11 @@
 use Prim.Native.Nat.{_<_}
 use Rattle.board.proofs.Board.set_up.Statement.{statement}
 use Rattle.board.proofs.Board.set_up.Tie as tie
-use Rattle.board.proofs.Broken.{Shaped, unbroken-of, present-small}
-use Rattle.board.proofs.Guards.{found-in}
-use Rattle.board.proofs.Passing.{length-mapped}
-use Rattle.board.specs.Calls.{foundIn, putTrack, setUp}
-use Rattle.board.specs.Rule.{unbrokenTest, Unbroken}
+use Rattle.board.proofs.rules.Broken.{Shaped, unbroken-of, present-small}
+use Rattle.board.proofs.rules.Present.{found-in}
+use Rattle.board.proofs.rules.Passing.{length-mapped}
+use Rattle.board.specs.Board.{foundIn, unbrokenTest, Unbroken}
+use Rattle.board.specs.Setup.{putTrack, setUp}
 use Rattle.track.proofs.Numbers.{told, natural-out, natural-take}
 use Rattle.track.proofs.Tests.{cond-yes, cond-no}
 use Rattle.track.specs.declared.number.Natural.the-variants.{In}

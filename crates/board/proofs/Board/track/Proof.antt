@@ -1,11 +1,11 @@
 use Prim.Native.Nat.{_<_}
 use Rattle.board.proofs.Board.track.Statement.{statement}
 use Rattle.board.proofs.Board.track.Tie as tie
-use Rattle.board.proofs.Broken.{Shaped, present-small}
-use Rattle.board.proofs.Guards.{found-in}
-use Rattle.board.proofs.Passing.{length-mapped}
-use Rattle.board.specs.Calls.{foundIn, trackOf}
-use Rattle.board.specs.Rule.{unbrokenTest}
+use Rattle.board.proofs.rules.Broken.{Shaped, present-small}
+use Rattle.board.proofs.rules.Present.{found-in}
+use Rattle.board.proofs.rules.Passing.{length-mapped}
+use Rattle.board.specs.Board.{foundIn, unbrokenTest}
+use Rattle.board.specs.Query.{trackOf}
 use Rattle.track.proofs.Numbers.{told, natural-out, natural-take}
 use Rattle.track.proofs.Tests.{cond-yes, cond-no}
 use Rattle.track.specs.declared.Track.{Track}

@@ -1,4 +1,4 @@
-use Rattle.board.proofs.Passing.{deed-none, deed-event, deed-command, deed-free, deed-bound}
+use Rattle.board.proofs.rules.Passing.{deed-none, deed-event, deed-command, deed-free, deed-bound}
 use Rattle.board.proofs.rules.able.Statement.{statement}
 use Rattle.board.proofs.rules.able.Tie as tie
 use borrow.Author.Needs.{needs}

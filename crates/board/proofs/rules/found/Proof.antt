@@ -1,4 +1,4 @@
-use Rattle.board.proofs.Passing.{found-out, found-absent, found-present}
+use Rattle.board.proofs.rules.Passing.{found-out, found-absent, found-present}
 use Rattle.board.proofs.rules.found.Statement.{statement}
 use Rattle.board.proofs.rules.found.Tie as tie
 use Rattle.track.proofs.Numbers.{told}

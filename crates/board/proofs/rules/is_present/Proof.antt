@@ -1,4 +1,4 @@
-use Rattle.board.proofs.Broken.{present-not, present-bit}
+use Rattle.board.proofs.rules.Broken.{present-not, present-bit}
 use Rattle.board.proofs.rules.is_present.Statement.{statement}
 use Rattle.board.proofs.rules.is_present.Tie as tie
 use borrow.Author.Needs.{needs}

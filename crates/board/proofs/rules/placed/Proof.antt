@@ -1,4 +1,4 @@
-use Rattle.board.proofs.Passing.{place-absent, place-low, place-rest}
+use Rattle.board.proofs.rules.Passing.{place-absent, place-low, place-rest}
 use Rattle.board.proofs.rules.placed.Statement.{statement}
 use Rattle.board.proofs.rules.placed.Tie as tie
 use borrow.Author.Needs.{needs}

@@ -1,8 +1,8 @@
 use Prim.Native.Nat.{_≤_, _-_, _+_}
-use Rattle.board.proofs.Passing.{row-next, row-end, points-low, points-place, points-deed, points-track, points-target, points-next, points-end, length-mapped}
+use Rattle.board.proofs.rules.Passing.{row-next, row-end, points-low, points-place, points-deed, points-track, points-target, points-next, points-end, length-mapped}
 use Rattle.board.proofs.rules.points_kept.Statement.{statement}
 use Rattle.board.proofs.rules.points_kept.Tie as tie
-use Rattle.board.specs.Rule.{pointsTest}
+use Rattle.board.specs.Board.{pointsTest}
 use borrow.Author.Needs.{needs}
 use borrow.Author.Tests.{not-true, not-false}
 use lib.ListN.{length, drop, take, getD}

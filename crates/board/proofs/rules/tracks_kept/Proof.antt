@@ -1,8 +1,8 @@
 use Prim.Native.Nat.{_≤_, _-_}
-use Rattle.board.proofs.Passing.{tracks-next, tracks-bad, tracks-end, length-mapped}
+use Rattle.board.proofs.rules.Passing.{tracks-next, tracks-bad, tracks-end, length-mapped}
 use Rattle.board.proofs.rules.tracks_kept.Statement.{statement}
 use Rattle.board.proofs.rules.tracks_kept.Tie as tie
-use Rattle.board.specs.Rule.{tracksTest}
+use Rattle.board.specs.Board.{tracksTest}
 use borrow.Author.Needs.{needs}
 use borrow.Author.Tests.{not-true, not-false}
 use lib.ListN.{length, drop}

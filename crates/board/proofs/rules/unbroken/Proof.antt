@@ -1,4 +1,4 @@
-use Rattle.board.proofs.Passing.{parts-clock, parts-count, parts-tracks, parts-points}
+use Rattle.board.proofs.rules.Passing.{parts-clock, parts-count, parts-tracks, parts-points}
 use Rattle.board.proofs.rules.unbroken.Statement.{statement}
 use Rattle.board.proofs.rules.unbroken.Tie as tie
 use borrow.Author.Needs.{needs}

@@ -1,5 +1,5 @@
 use Prim.Native.Nat.{ℕ, _+_, _<_}
-use Rattle.board.proofs.Guards.{with-track-fits, bit-is}
+use Rattle.board.proofs.rules.Present.{with-track-fits, bit-is}
 use Rattle.board.proofs.rules.with_track.Statement.{statement}
 use Rattle.board.proofs.rules.with_track.Tie as tie
 use borrow.Author.Needs.{needs}

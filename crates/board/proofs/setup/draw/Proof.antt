@@ -1,7 +1,7 @@
 use Prim.Native.Nat.{ℕ}
 use Rattle.board.proofs.setup.draw.Statement.{statement}
 use Rattle.board.proofs.setup.draw.Tie as tie
-use Rattle.board.specs.Calls.{drawnFrom}
+use Rattle.board.specs.Setup.{drawnFrom}
 use Rattle.track.proofs.Numbers.{told, natural-in, natural-out, natural-take, place-out, place-take}
 use Rattle.track.proofs.Tests.{cond-yes, cond-no}
 use Rattle.track.specs.Number.{naturalOf, coordinateOf, within}

@@ -2,8 +2,8 @@ use borrow.Author.Needs.{needs}
 use denote.Ref.{now}
 use mathlib.Core.Path.{_∙_}
 use mir.Facts.{toZ-ofZ}
-use Rattle.encoding.specs.Encoded.{callOf}
-use Rattle.motion.specs.Does.{world}
+use Rattle.board.specs.Row.{callOf}
+use Rattle.board.specs.Call.{world}
 use Rattle.firmware.proofs.DoorLaws.{door-answers}
 use Rattle.firmware.proofs.door.gridstep_call.Statement.{statement}
 use Rattle.firmware.proofs.door.gridstep_call.Tie as tie

@@ -2,7 +2,7 @@ use Rattle.firmware.proofs.value.ending_of.Statement.{statement}
 use Rattle.firmware.proofs.value.ending_of.Tie as tie
 use borrow.Author.Needs.{needs}
 use mathlib.Core.Path.{ap, sym}
-use Rattle.motion.specs.Does.{advancedSaid}
+use Rattle.board.specs.Call.{advancedSaid}
 
 enum-known-a : tie.Need-enum-known-a
 enum-known-a c = search needs

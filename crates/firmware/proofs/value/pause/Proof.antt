@@ -1,7 +1,7 @@
 use Rattle.firmware.proofs.value.pause.Statement.{statement}
 use Rattle.firmware.proofs.value.pause.Tie as tie
 use Rattle.firmware.proofs.Numbering.{gives-number}
-use Rattle.motion.proofs.Machine.{pause-gives}
+use Rattle.board.proofs.call.Machine.{pause-gives}
 use borrow.Author.Needs.{needs}
 use mir.Facts.{toZ-ofZ}
 

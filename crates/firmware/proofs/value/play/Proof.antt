@@ -1,7 +1,7 @@
 use Rattle.firmware.proofs.value.play.Statement.{statement}
 use Rattle.firmware.proofs.value.play.Tie as tie
 use Rattle.firmware.proofs.Numbering.{gives-number}
-use Rattle.motion.proofs.Machine.{play-gives}
+use Rattle.board.proofs.call.Machine.{play-gives}
 use borrow.Author.Needs.{needs}
 use mir.Facts.{toZ-ofZ}
 

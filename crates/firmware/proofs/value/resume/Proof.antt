@@ -1,7 +1,7 @@
 use Rattle.firmware.proofs.value.resume.Statement.{statement}
 use Rattle.firmware.proofs.value.resume.Tie as tie
 use Rattle.firmware.proofs.Numbering.{gives-number}
-use Rattle.motion.proofs.Machine.{resume-gives}
+use Rattle.board.proofs.call.Machine.{resume-gives}
 use borrow.Author.Needs.{needs}
 use mir.Facts.{toZ-ofZ}
 

@@ -1,7 +1,7 @@
 use Rattle.firmware.proofs.value.stop.Statement.{statement}
 use Rattle.firmware.proofs.value.stop.Tie as tie
 use Rattle.firmware.proofs.Numbering.{gives-number}
-use Rattle.motion.proofs.Machine.{stop-gives}
+use Rattle.board.proofs.call.Machine.{stop-gives}
 use borrow.Author.Needs.{needs}
 use mir.Facts.{toZ-ofZ}
 

@@ -1,0 +1,277 @@
+-- The laws of a turn of the tick loop: quiet ticks leapt and one tick walked, in one pass over the members of the playing word.
+use Prim.Native.Nat.{ℕ, zero, suc, _+_, _-_, _*_, _/_, _%_, _≤_, _<_}
+use mathlib.Core.Path.{_≡_, refl, sym, _∙_, ap, subst}
+use mathlib.Core.Bool.{Bool, true, false, cond, not, _||_, true≢false}
+use mathlib.Core.List.{List, [], _∷_, _++_}
+use native.Mathlib.Omega.{arith}
+use native.Mathlib.Nat.{add-zero}
+use lib.Count.{trailingZeros, ones}
+use lib.Dec.{eqb}
+use lib.ListN.{length, take, set, length-set}
+use lib.Seq.{getD-set-same, getD-set-other, set-set, set-comm}
+use borrow.Author.Tests.{eq-eqb, eqb-true}
+use Rattle.track.specs.declared.Track.{Track}
+use Rattle.track.specs.Rule.{PLAYING, Valid}
+use Rattle.track.specs.Walk.{step}
+use Rattle.track.specs.Leap.{leap}
+use Rattle.board.specs.declared.Board.{Board}
+use Rattle.board.specs.Log.{writeAt, recordWidth, logBytes}
+use Rattle.board.specs.Points.{ascendingFrom, keysOf, infosOf}
+use Rattle.board.specs.Board.{noTrack, trackAt, isPresent, pointsTest}
+use Rattle.board.specs.Tick.{Stage, staged, waits, commandOf, stirring, stepRecords, reachedBy, foundBy, runCommand, runAll, tickFrom, playBit, playingWord, TracksRule}
+use Rattle.board.specs.Tick.{members}
+use Rattle.board.specs.Quiet.{Each, Able, Leapable, leapInto, leapTracks}
+use Rattle.board.proofs.points.Keys.{ascending-head, ascending-rest}
+use Rattle.board.proofs.points.Rows.{ascending-weaken}
+use Rattle.board.proofs.tick.Bits.{Lowest, cleared}
+use Rattle.board.proofs.tick.Commands.{tracksRun, recordsRun}
+use Rattle.board.proofs.quiet.Leaps.{leap-into, leap-tracks-long, leap-tracks-word}
+use Rattle.board.proofs.advance.Members.{Stepping, stepping-start, stepping-step, stepping-over, stepping-done, member-left, each-set, none-left}
+use Rattle.board.proofs.quiet.Players.{EachPlaying, bit-plays, each-member, word-small}
+use Rattle.board.proofs.tick.Staging.{write-none}
+use Rattle.board.proofs.tick.Steps.{members-ascend}
+
+-- ---- tracks leapt in their places, and another track
+
+module _ (k i : ℕ) where
+  -- a track below those leapt is as it was
+  into-at : (ts : List Track) (is : List ℕ) (us : List Track) → ascendingFrom (suc i) is ≡ true → trackAt (leapInto k ts is us) i ≡ trackAt us i
+  unfolding leapInto
+  into-at ts [] us a = refl
+  into-at ts (j ∷ js) us a =
+      let l : i < j = ascending-head (suc i) j js a in
+      into-at ts js (set us j (leap (trackAt ts j) k)) (ascending-weaken (suc i) (suc j) js (omega arith) (ascending-rest (suc i) j js a))
+      ∙ getD-set-other us j i (leap (trackAt ts j) k) noTrack (λ q. omega arith)
+
+  -- it can be put before the leaps or after them
+  into-set : (ts : List Track) (is : List ℕ) (us : List Track) (u : Track) → ascendingFrom (suc i) is ≡ true
+      → set (leapInto k ts is us) i u ≡ leapInto k ts is (set us i u)
+  unfolding leapInto
+  into-set ts [] us u a = refl
+  into-set ts (j ∷ js) us u a =
+      let l : i < j = ascending-head (suc i) j js a in
+      into-set ts js (set us j (leap (trackAt ts j) k)) u (ascending-weaken (suc i) (suc j) js (omega arith) (ascending-rest (suc i) j js a))
+      ∙ ap (leapInto k ts js) (set-comm us j i (leap (trackAt ts j) k) u (λ q. omega arith))
+
+  -- and is not among those that are read
+  into-from : (ts : List Track) (is : List ℕ) (us : List Track) (u : Track) → ascendingFrom (suc i) is ≡ true
+      → leapInto k (set ts i u) is us ≡ leapInto k ts is us
+  unfolding leapInto
+  into-from ts [] us u a = refl
+  into-from ts (j ∷ js) us u a =
+      let l : i < j = ascending-head (suc i) j js a in
+      into-from ts js (set us j (leap (trackAt (set ts i u) j) k)) u (ascending-weaken (suc i) (suc j) js (omega arith) (ascending-rest (suc i) j js a))
+      ∙ ap (λ (t : Track). leapInto k ts js (set us j (leap t k))) (getD-set-other ts i j u noTrack (λ q. omega arith))
+
+-- ---- what a step that stirs nothing keeps
+
+-- the playing word, where a track is replaced by one of its mode
+word-set : (present : ℕ) (ts : List Track) (i : ℕ) (u : Track) → u .mode ≡ trackAt ts i .mode → playingWord present (set ts i u) ≡ playingWord present ts
+unfolding playingWord
+word-set present [] i u e = refl
+word-set present (t ∷ ts) zero u e = ap (λ (m : ℕ). cond (eqb m PLAYING) (present % 2) 0 + playingWord (present / 2) ts * 2) e
+word-set present (t ∷ ts) (suc i) u e = ap (λ (w : ℕ). playBit (present % 2) t + w * 2) (word-set (present / 2) ts i u e)
+
+-- points without a command do nothing
+run-none : (clock : ℕ) (ds : List ℕ) (s : Stage) → Each (λ d. commandOf d ≡ 0) ds → runAll clock ds s ≡ s
+unfolding runAll runCommand Each
+run-none clock [] s e = refl
+run-none clock (d ∷ ds) s e = rw (eq-eqb (commandOf d) 0 (e .0)) (run-none clock ds s (e .1))
+
+-- one more of them
+each-more : (ds : List ℕ) (d : ℕ) → commandOf d ≡ 0 → Each (λ d. commandOf d ≡ 0) ds → Each (λ d. commandOf d ≡ 0) (ds ++ reachedBy d)
+unfolding Each
+each-more [] d e a = go (eqb d 0)
+  where
+    go : (b : Bool) → Each (λ d. commandOf d ≡ 0) (cond b [] (d ∷ []))
+    go true = tt
+    go false = (e, tt)
+each-more (x ∷ xs) d e a = (a .0, each-more xs d e (a .1))
+
+-- ---- what stirs
+
+-- nothing stirs: nothing has, the point has no command, and the track plays
+stirs-not : (before : Bool) (d mode : ℕ) → (before || stirring d mode) ≡ false → (before ≡ false) × (commandOf d ≡ 0) × (mode ≡ PLAYING)
+stirs-not before d mode = go before (eqb (commandOf d) 0) (eqb mode PLAYING) (eqb-true (commandOf d) 0) (eqb-true mode PLAYING)
+  where
+    go : (a b c : Bool) → (b ≡ true → commandOf d ≡ 0) → (c ≡ true → mode ≡ PLAYING) → (a || (not b || not c)) ≡ false
+        → (a ≡ false) × (commandOf d ≡ 0) × (mode ≡ PLAYING)
+    go true b c f g e = absurd (true≢false e)
+    go false false c f g e = absurd (true≢false e)
+    go false true false f g e = absurd (true≢false e)
+    go false true true f g e = (refl, f refl, g refl)
+
+-- ---- a turn, as far as it has gone
+
+-- a playing track that can be leapt
+pub record Ready (t : Track) : Type 0 where
+  pub able : Able t
+  pub plays : t .mode ≡ PLAYING
+
+all-play : (n present : ℕ) (ts : List Track) → EachPlaying (λ n t. t .mode ≡ PLAYING) n present ts
+unfolding EachPlaying
+all-play n present [] = tt
+all-play n present (t ∷ ts) = (λ h. bit-plays (present % 2) t h .0, all-play (suc n) (present / 2) ts)
+
+each-ready : (ts : List Track) (is : List ℕ) → Leapable ts is → Each (λ i. trackAt ts i .mode ≡ PLAYING) is → Each (λ i. Ready (trackAt ts i)) is
+unfolding Each
+each-ready ts [] a p = tt
+each-ready ts (i ∷ is) a p = (record { able = a .0; plays = p .0 }, each-ready ts is (a .1) (p .1))
+
+-- `calm` ticks leapt and one walked, of the members of `word` but for those of `rest`; so far `stirred` says whether a step stirs
+pub record Turning (b : Board) (ts : List Track) (clock word calm : ℕ) (stage reached : List ℕ) (next : List Track) (rest left count m : ℕ) (stirred : Bool) : Type 0 where
+  pub steps : Stepping b (leapTracks calm (b .present) ts) clock word stage reached (leapInto calm next (members rest) next) rest left count m
+  pub ready : Each (λ i. Ready (trackAt next i)) (members rest)
+  pub long : length next ≡ 16
+  pub same-word : stirred ≡ false → word ≡ playingWord (b .present) next
+  pub no-command : stirred ≡ false → Each (λ d. commandOf d ≡ 0) (take m reached)
+
+pub turning-start : (b : Board) (ts : List Track) (clock word calm : ℕ) (stage reached : List ℕ) → word ≡ playingWord (b .present) ts → length ts ≡ 16 →
+    Leapable ts (members word) → Leapable (leapTracks calm (b .present) ts) (members (playingWord (b .present) (leapTracks calm (b .present) ts))) →
+    ((i : ℕ) → isPresent (b .present) i ≡ true → Valid (trackAt (leapTracks calm (b .present) ts) i)) → length stage ≡ 768 → length reached ≡ 16 →
+    Turning b ts clock word calm stage reached ts word (ones word) 0 0 false
+unfolding Each
+turning-start b ts clock word calm stage reached ew l able able′ valid s r =
+    let after = leapTracks calm (b .present) ts in
+    let w = leap-tracks-word calm (b .present) ts ∙ sym ew in
+    record {
+      steps = subst (λ (us : List Track). Stepping b after clock word stage reached us word (ones word) 0 0)
+          (sym (leap-into calm (b .present) ts l) ∙ ap (λ (v : ℕ). leapInto calm ts (members v) ts) (sym ew))
+          (stepping-start b after clock word stage reached (subst (λ (v : ℕ). v < 65536) (sym ew) (word-small (b .present) ts l))
+          (subst (λ (v : ℕ). Leapable after (members v)) w able′) valid (leap-tracks-long calm (b .present) ts ∙ l) s r);
+      ready = each-ready ts (members word) able
+          (subst (λ (v : ℕ). Each (λ i. trackAt ts i .mode ≡ PLAYING) (members v)) (sym ew)
+          (each-member (λ n t. t .mode ≡ PLAYING) (b .present) ts l (all-play 0 (b .present) ts)));
+      long = l;
+      same-word = λ e. ew;
+      no-command = λ e. tt;
+    }
+
+module _ (b : Board) (ts : List Track) (clock word calm : ℕ) (stage reached : List ℕ) (next : List Track) (rest left count m : ℕ) (stirred : Bool)
+    (s : Turning b ts clock word calm stage reached next rest left count m stirred) where
+  abbrev i : ℕ
+  i = trailingZeros 16 rest
+
+  -- where there is a member left
+  module _ (h : 0 < left) where
+    pub turning-member : Lowest rest
+    turning-member = member-left _ _ _ _ _ _ _ _ _ _ _ (s .steps) h
+
+    above : ascendingFrom (suc i) (members (cleared rest)) ≡ true
+    above =
+        ascending-rest 0 i (members (cleared rest))
+        (subst (λ (is : List ℕ). ascendingFrom 0 is ≡ true) (turning-member .rest) (members-ascend 16 0 rest))
+
+    readies : Each (λ j. Ready (trackAt next j)) (i ∷ members (cleared rest))
+    readies = subst (Each (λ j. Ready (trackAt next j))) (turning-member .rest) (s .ready)
+
+    first : Ready (trackAt next i)
+    unfolding Each
+    first = readies .0
+
+    -- it can be leapt
+    pub turning-able : Able (trackAt next i)
+    turning-able = first .able
+
+    -- its leap is the one that stands in its place
+    ahead : leapInto calm next (members rest) next ≡ leapInto calm next (members (cleared rest)) (set next i (leap (trackAt next i) calm))
+    unfolding leapInto
+    ahead = ap (λ (is : List ℕ). leapInto calm next is next) (turning-member .rest)
+
+    its-leap : trackAt (leapInto calm next (members rest) next) i ≡ leap (trackAt next i) calm
+    its-leap =
+        ap (λ (us : List Track). trackAt us i) ahead
+        ∙ into-at calm i next (members (cleared rest)) (set next i (leap (trackAt next i) calm)) above
+        ∙ getD-set-same next i (leap (trackAt next i) calm) noTrack (omega (arith, s .long, turning-member .inside))
+
+    -- the leapt track is able to step
+    pub turning-leapt : Able (leap (trackAt next i) calm)
+    unfolding Each
+    turning-leapt =
+        subst Able its-leap (subst (λ (is : List ℕ). Leapable (leapInto calm next (members rest) next) is) (turning-member .rest) (s .steps .able) .0)
+
+    put : (u : Track) → set (leapInto calm next (members rest) next) i u ≡ leapInto calm (set next i u) (members (cleared rest)) (set next i u)
+    put u =
+        ap (λ (us : List Track). set us i u) ahead
+        ∙ into-set calm i next (members (cleared rest)) (set next i (leap (trackAt next i) calm)) u above
+        ∙ ap (leapInto calm next (members (cleared rest))) (set-set next i (leap (trackAt next i) calm) u)
+        ∙ sym (into-from calm i next (members (cleared rest)) (set next i u) u above)
+
+    -- one member leapt and stepped: its records staged, its point noted
+    pub turning-step : (us : List Track) → pointsTest (b .present) us 0 (keysOf (b .points)) (infosOf (b .points)) ≡ true →
+        {x u : Track} {d count′ m′ : ℕ} {stage′ reached′ : List ℕ} {stirred′ : Bool} → x ≡ leap (trackAt next i) calm →
+        d ≡ foundBy (keysOf (b .points)) (infosOf (b .points)) i x → u ≡ step x (waits d) →
+        count′ ≡ count + length (stepRecords (clock + 1) i x d) → stage′ ≡ writeAt stage (count * recordWidth) (logBytes (stepRecords (clock + 1) i x d)) →
+        m′ ≡ m + length (reachedBy d) → take m′ reached′ ≡ take m reached ++ reachedBy d → length reached′ ≡ length reached →
+        stirred′ ≡ (stirred || stirring d (u .mode)) →
+        Turning b ts clock word calm stage′ reached′ (set next i u) (cleared rest) (left - 1) count′ m′ stirred′
+    unfolding Each
+    turning-step us p {x} {u} {d} {count′} {m′} {stage′} {reached′} {stirred′} ex ed eu ec es em er lr et =
+        record {
+          steps = subst (λ (ns : List Track). Stepping b (leapTracks calm (b .present) ts) clock word stage′ reached′ ns (cleared rest) (left - 1) count′ m′) (put u)
+              (subst (λ (t : Track). d ≡ foundBy (keysOf (b .points)) (infosOf (b .points)) i t → u ≡ step t (waits d) → count′ ≡ count + length (stepRecords (clock + 1) i t d) → stage′ ≡ writeAt stage (count * recordWidth) (logBytes (stepRecords (clock + 1) i t d)) → Stepping b (leapTracks calm (b .present) ts) clock word stage′ reached′ (set (leapInto calm next (members rest) next) i u) (cleared rest) (left - 1) count′ m′)
+              (its-leap ∙ sym ex)
+              (λ ed eu ec es. stepping-step _ _ _ _ _ _ _ _ _ _ _ (s .steps) h us p ed eu ec es em er lr) ed eu ec es);
+          ready = each-set Ready next i u (members (cleared rest)) above (readies .1);
+          long = length-set next i u ∙ s .long;
+          same-word = λ e.
+              let n = stirs-not stirred d (u .mode) (sym et ∙ e) in
+              s .same-word (n .0) ∙ sym (word-set (b .present) next i u (n .2 ∙ sym (first .plays)));
+          no-command = λ e.
+              let n = stirs-not stirred d (u .mode) (sym et ∙ e) in
+              subst (Each (λ d. commandOf d ≡ 0)) (sym er) (each-more (take m reached) d (n .1) (s .no-command (n .0)));
+        }
+
+-- ---- the ways out
+
+-- a tick from the tracks ts is worked out: the tracks after it, its records in the stage, the playing word
+pub record Ticked (b : Board) (ts : List Track) (clock : ℕ) (after : List Track) (total : ℕ) (stage : List ℕ) (word : ℕ) : Type 0 where
+  pub tracks : after ≡ tickFrom (keysOf (b .points)) (infosOf (b .points)) (clock + 1) (b .present) ts .tracks
+  pub count : total ≡ length (tickFrom (keysOf (b .points)) (infosOf (b .points)) (clock + 1) (b .present) ts .records)
+  pub bytes : take (total * recordWidth) stage ≡ logBytes (tickFrom (keysOf (b .points)) (infosOf (b .points)) (clock + 1) (b .present) ts .records)
+  pub stage-long : length stage ≡ 768
+  pub word-is : word ≡ playingWord (b .present) after
+
+module _ (b : Board) (ts : List Track) (clock word calm : ℕ) (ew : word ≡ playingWord (b .present) ts) (stage reached : List ℕ) (next : List Track)
+    (rest left count m : ℕ) (stirred : Bool) (s : Turning b ts clock word calm stage reached next rest left count m stirred) where
+  abbrev leapt : List Track
+  leapt = leapTracks calm (b .present) ts
+
+  same : word ≡ playingWord (b .present) leapt
+  same = ew ∙ sym (leap-tracks-word calm (b .present) ts)
+
+  -- records staged so far are part of the tick's
+  pub turning-over : count ≤ length (tickFrom (keysOf (b .points)) (infosOf (b .points)) (clock + 1) (b .present) leapt .records)
+  turning-over = stepping-over b leapt clock word same stage reached _ rest left count m (s .steps)
+
+  module _ (h : left ≤ 0) where
+    over : leapInto calm next (members rest) next ≡ next
+    unfolding leapInto
+    over = ap (λ (is : List ℕ). leapInto calm next is next) (none-left rest (s .steps .small) (omega (arith, s .steps .left-is)))
+
+    stepped : Stepping b leapt clock word stage reached next rest left count m
+    stepped = subst (λ (us : List Track). Stepping b leapt clock word stage reached us rest left count m) over (s .steps)
+
+    -- what the commands may rely on
+    pub turning-rule : TracksRule (b .present) next (take m reached)
+    turning-rule = stepped .rule
+
+    -- a command to run, or a track that plays no more
+    pub turning-stirred : {after : List Track} {total : ℕ} {stage′ : List ℕ} {word′ : ℕ} → after ≡ tracksRun (clock + 1) (take m reached) next →
+        total ≡ count + length (recordsRun (clock + 1) (take m reached) next) →
+        stage′ ≡ writeAt stage (count * recordWidth) (logBytes (recordsRun (clock + 1) (take m reached) next)) → word′ ≡ playingWord (b .present) after →
+        Ticked b leapt clock after total stage′ word′
+    turning-stirred ea et es eq =
+        let d = stepping-done b leapt clock word same stage reached next rest left count m stepped h ea et es in
+        record { tracks = d .0; count = d .1; bytes = d .2; stage-long = d .3; word-is = eq }
+
+    -- neither
+    pub turning-still : stirred ≡ false → {after : List Track} {total : ℕ} {stage′ : List ℕ} {word′ : ℕ} → after ≡ next → total ≡ count → stage′ ≡ stage →
+        word′ ≡ word → Ticked b leapt clock after total stage′ word′
+    unfolding logBytes
+    turning-still e ea et es eq =
+        let none = run-none (clock + 1) (take m reached) (staged next [] []) (s .no-command e) in
+        turning-stirred (ea ∙ sym (ap (λ (x : Stage). x .tracks) none))
+        (et ∙ sym (add-zero count) ∙ ap (λ (x : Stage). count + length (x .records)) (sym none))
+        (es ∙ sym (write-none stage (count * recordWidth)) ∙ ap (λ (x : Stage). writeAt stage (count * recordWidth) (logBytes (x .records))) (sym none))
+        (eq ∙ s .same-word e ∙ ap (playingWord (b .present)) (sym ea))

@@ -1,0 +1,380 @@
+use Prim.Native.Nat.{ℕ, _+_}
+use Rattle.board.proofs.advance.run.Proof.Standing.{Inv-loop, μ-loop, Inv-ticks, μ-ticks, leapt-all, board, bits, shape, shaped, start, whole, able, turn, fewer, leapt, ahead, whole′, short, longest, walked, leap-at, entry, member, stepping, done, few, full}
+use Rattle.board.proofs.advance.Cost.{leap-less, walk-less}
+use Rattle.board.proofs.advance.Advancing.{going-start, going-ends, going-done, boardAt, whole-points}
+use Rattle.board.proofs.quiet.Leaps.{unbroken-able, unbroken-telling}
+use Rattle.board.proofs.advance.Turning.{turning-start, turning-able, turning-step, turning-over, turning-rule}
+use Rattle.board.proofs.tick.Steps.{found-rule}
+use Rattle.board.proofs.advance.run.Statement.{statement}
+use Rattle.board.proofs.advance.run.Tie as tie
+use Rattle.board.specs.Points.{key, keysOf, infosOf, infoAt}
+use Rattle.board.specs.Tick.{InfoRule}
+use Rattle.board.specs.declared.tick.Staged.{Staged}
+use Rattle.track.proofs.Arrivals.{arrival-inside}
+use borrow.Author.Needs.{needs}
+use lib.Count.{trailingZeros}
+use mathlib.Core.Path.{refl, sym, _∙_, ap, subst}
+use native.Mathlib.Omega.{arith}
+mod Standing
+
+playing-requires : tie.Need-playing-requires Inv-loop μ-loop Inv-ticks μ-ticks
+playing-requires c κs = search needs
+
+ticks-holds : tie.Need-ticks-holds Inv-loop μ-loop Inv-ticks μ-ticks
+ticks-holds c =
+    let s = c .before .before .before .before in
+    (going-start (board s) (s .args .count .0) (s .args .log .now) (s .pre .1 .0) (s .pre .1 .1) (shape s .tracks), c .playing .ensures, refl, refl)
+
+sub-smaller : tie.Need-sub-smaller Inv-loop μ-loop Inv-ticks μ-ticks
+sub-smaller c = search needs
+
+sub-smaller-2 : tie.Need-sub-smaller-2 Inv-loop μ-loop Inv-ticks μ-ticks
+sub-smaller-2 c = omega (arith, whole (c .before) .clock)
+
+smaller-requires : tie.Need-smaller-requires Inv-loop μ-loop Inv-ticks μ-ticks
+smaller-requires c κs = search needs
+
+quiet-requires : tie.Need-quiet-requires Inv-loop μ-loop Inv-ticks μ-ticks
+quiet-requires c κs =
+    let t = c .before .before .before in
+    let u = whole t in
+    let s = shape (start t) in
+    let g = t .before .ticks .inv .0 in (
+      able t,
+      (
+        (omega (arith, u .count, s .keys), omega (arith, u .count, s .infos)),
+        (u .order, unbroken-telling _ (record { tracks = g .tracks-long; keys = s .keys; infos = s .infos }) u),
+      ),
+    )
+
+smaller-requires-2 : tie.Need-smaller-requires-2 Inv-loop μ-loop Inv-ticks μ-ticks
+smaller-requires-2 c κs = search needs
+
+leapt-requires : tie.Need-leapt-requires Inv-loop μ-loop Inv-ticks μ-ticks
+leapt-requires c κs = (able (turn (c .before)), omega (arith, c .before .before .smaller .ensures))
+
+add-clock : tie.Need-add-clock Inv-loop μ-loop Inv-ticks μ-ticks
+add-clock c = omega (arith, c .before .before .before .smaller .ensures, whole (c .before .before .before .before .before) .clock)
+
+add-taken : tie.Need-add-taken Inv-loop μ-loop Inv-ticks μ-ticks
+add-taken c =
+    let t = c .before .before .before .before .before in
+    omega (arith, c .before .before .before .smaller .ensures, t .ticks-test .taken, bits (start t))
+
+ticks-less : tie.Need-ticks-less Inv-loop μ-loop Inv-ticks μ-ticks
+ticks-less c =
+    let j = c .before .before in
+    let k = turn j .before .ticks in
+    let l = leapt-all c in
+    let e = j .before .smaller .ensures in
+    leap-less _ _ _ (k .inv .0) (l .0) (turn j .ticks-test .taken) (omega (arith, j .before .before .if1 .left, whole (turn j) .clock)) (k .look) refl (sym (l .1) ∙ k .inv .1) (omega arith)
+
+ticks-again : tie.Need-ticks-again Inv-loop μ-loop Inv-ticks μ-ticks
+ticks-again c =
+    let l = leapt-all c in
+    let k = turn (c .before .before) .before .ticks in
+    (l .0, l .1, k .inv .2, k .inv .3)
+
+sub-room : tie.Need-sub-room Inv-loop μ-loop Inv-ticks μ-ticks
+sub-room c = omega (arith, c .before .before .before .before .before .ticks .inv .0 .fits)
+
+leapt-requires-2 : tie.Need-leapt-requires-2 Inv-loop μ-loop Inv-ticks μ-ticks
+leapt-requires-2 c κs =
+    let j = c .before .before in
+    let f = fewer j in
+    (able (turn j), omega (arith, j .before .smaller .ensures))
+
+add-clock-2 : tie.Need-add-clock-2 Inv-loop μ-loop Inv-ticks μ-ticks
+add-clock-2 c =
+    let j = c .before .before .before in
+    let f = fewer j in
+    omega (arith, j .before .smaller .ensures, whole (turn j) .clock)
+
+add-taken-2 : tie.Need-add-taken-2 Inv-loop μ-loop Inv-ticks μ-ticks
+add-taken-2 c =
+    let j = c .before .before .before in
+    let f = fewer j in
+    omega (arith, j .before .smaller .ensures, turn j .ticks-test .taken, bits (start (turn j)))
+
+loop-holds : tie.Need-loop-holds Inv-loop μ-loop Inv-ticks μ-ticks
+loop-holds c =
+    let j = c .before .before .before in
+    let k = turn j .before .ticks in
+    let s = shape (start (turn j)) in
+    turning-start _ _ _ _ _ _ _ (k .inv .1) (k .inv .0 .tracks-long) (able (turn j))
+    (unbroken-able _ (record { tracks = ahead j .tracks-long; keys = s .keys; infos = s .infos }) (whole′ j)) (λ i h. whole′ j .tracks i h .valid) (k .inv .2) (k .inv .3)
+
+cast-i : tie.Need-cast-i Inv-loop μ-loop Inv-ticks μ-ticks
+cast-i c = record { fits = (let l = member c .inside in omega arith) }
+
+mul-s : tie.Need-mul-s Inv-loop μ-loop Inv-ticks μ-ticks
+mul-s c = let l = member c .inside in omega arith
+
+array-copy-out-s : tie.Need-array-copy-out-s Inv-loop μ-loop Inv-ticks μ-ticks
+array-copy-out-s c = omega (arith, member c .inside, c .before .loop .inv .long)
+
+leap-requires : tie.Need-leap-requires Inv-loop μ-loop Inv-ticks μ-ticks
+leap-requires c κs =
+    let i = c .before in
+    let j = c .before .before .before .before .before .before in
+    let a = turning-able _ _ _ _ _ _ _ _ _ _ _ _ _ (i .before .loop .inv) (i .loop-test .taken) in
+    let f = fewer j in
+    (a .valid, (a .passes, omega (arith, j .before .smaller .ensures)))
+
+arrival-requires : tie.Need-arrival-requires Inv-loop μ-loop Inv-ticks μ-ticks
+arrival-requires c κs = stepping c .valid
+
+cast-here : tie.Need-cast-here Inv-loop μ-loop Inv-ticks μ-ticks
+cast-here c = record { fits = (let l = member (c .before .before .before) .inside in omega arith) }
+
+mul-here : tie.Need-mul-here Inv-loop μ-loop Inv-ticks μ-ticks
+mul-here c = let l = member (c .before .before .before) .inside in omega arith
+
+add-here : tie.Need-add-here Inv-loop μ-loop Inv-ticks μ-ticks
+add-here c =
+    let l = member (c .before .before .before .before) .inside in
+    let a = stepping (c .before .before) in
+    let i = arrival-inside _ (a .valid) in
+    omega (arith, c .before .arrival .ensures, a .valid .ordered)
+
+info-at-requires : tie.Need-info-at-requires Inv-loop μ-loop Inv-ticks μ-ticks
+info-at-requires c κs =
+    let t = c .before .before .before .before .before .before .before .before .before .before .before .before in
+    let u = whole t in
+    let s = shape (start t) in
+    ((omega (arith, u .count, s .keys), omega (arith, u .count, s .infos)), u .order)
+
+cast-step-member : tie.Need-cast-step-member Inv-loop μ-loop Inv-ticks μ-ticks
+cast-step-member c = record { fits = (let l = member (c .before .before .before .before .before) .inside in omega arith) }
+
+add-t56 : tie.Need-add-t56 Inv-loop μ-loop Inv-ticks μ-ticks
+add-t56 c =
+    let e = c .before .before .before .before .before .before .before .before .before in
+    let n = short e in
+    omega (arith, c .before .before .before .before .before .before .before .before .before .before .before .smaller .ensures, whole (c .before .before .before .before .before .before .before .before .before .before .before .before .before) .clock)
+
+slice-aggregate-step-member : tie.Need-slice-aggregate-step-member Inv-loop μ-loop Inv-ticks μ-ticks
+slice-aggregate-step-member c = search needs
+
+step-member-requires : tie.Need-step-member-requires Inv-loop μ-loop Inv-ticks μ-ticks
+step-member-requires c κs =
+    let a = stepping (c .before .before .before .before) in
+    let v = c .before .before .before .before .before .before .before .loop .inv .steps in
+    let t = c .before .before .before .before .before .before .before .before .before .before .before .before .before .before in (
+      a .valid,
+      (
+        a .passes,
+        (
+          subst InfoRule (sym (c .before .info-at .ensures)) (found-rule _ _ _ _ (whole-points (boardAt (board (start t)) (t .before .ticks .tracks) (t .before .ticks .clock) (t .before .ticks .held)) (t .before .ticks .inv .0 .whole)) _),
+          (omega (arith, v .few-records, v .stage-long, c .before .before .before .before .before .before .loop-test .taken), c .before .before .before .arrival .ensures),
+        ),
+      ),
+    )
+
+mul-tracks : tie.Need-mul-tracks Inv-loop μ-loop Inv-ticks μ-ticks
+mul-tracks c = let l = member (c .before .before .before .before .before .before .before .before .before) .inside in omega arith
+
+array-set-from-tracks : tie.Need-array-set-from-tracks Inv-loop μ-loop Inv-ticks μ-ticks
+array-set-from-tracks c = omega (arith, member (c .before .before .before .before .before .before .before .before .before) .inside, c .before .before .before .before .before .before .before .before .before .before .loop .inv .long)
+
+slice-aggregate-note : tie.Need-slice-aggregate-note Inv-loop μ-loop Inv-ticks μ-ticks
+slice-aggregate-note c = search needs
+
+note-requires : tie.Need-note-requires Inv-loop μ-loop Inv-ticks μ-ticks
+note-requires c κs =
+    let v = c .before .before .before .before .before .before .before .before .before .before .before .loop .inv .steps in
+    omega (arith, v .few-reached, v .reached-long, c .before .before .before .before .before .before .before .before .before .before .loop-test .taken)
+
+stirs-requires : tie.Need-stirs-requires Inv-loop μ-loop Inv-ticks μ-ticks
+stirs-requires c κs = search needs
+
+cast-rest : tie.Need-cast-rest Inv-loop μ-loop Inv-ticks μ-ticks
+cast-rest c = record { fits = (let l = member (c .before .before .before .before .before .before .before .before .before .before .before .before .before .before) .inside in omega arith) }
+
+shl-rest : tie.Need-shl-rest Inv-loop μ-loop Inv-ticks μ-ticks
+shl-rest c = omega (arith, member (c .before .before .before .before .before .before .before .before .before .before .before .before .before .before) .inside)
+
+sub-rest : tie.Need-sub-rest Inv-loop μ-loop Inv-ticks μ-ticks
+sub-rest c = omega (arith, member (c .before .before .before .before .before .before .before .before .before .before .before .before .before .before) .under)
+
+sub-left : tie.Need-sub-left Inv-loop μ-loop Inv-ticks μ-ticks
+sub-left c = search needs
+
+loop-less : tie.Need-loop-less Inv-loop μ-loop Inv-ticks μ-ticks
+loop-less c = search needs
+
+loop-again : tie.Need-loop-again Inv-loop μ-loop Inv-ticks μ-ticks
+loop-again c =
+    turning-step _ _ _ _ _ _ _ _ _ _ _ _ _ (c .before .before .before .before .before .before .before .before .before .before .before .before .before .before .before .loop .inv) (c .before .before .before .before .before .before .before .before .before .before .before .before .before .before .loop-test .taken) _ (whole-points (boardAt (board (entry (c .before .before .before .before .before .before .before .before .before .before .before .before .before .before .before .before .before))) (leapt (leap-at (c .before .before .before .before .before .before .before .before .before .before .before .before .before .before .before .before .before))) (turn (leap-at (c .before .before .before .before .before .before .before .before .before .before .before .before .before .before .before .before .before)) .before .ticks .clock + leap-at (c .before .before .before .before .before .before .before .before .before .before .before .before .before .before .before .before .before) .if2 .calm) (turn (leap-at (c .before .before .before .before .before .before .before .before .before .before .before .before .before .before .before .before .before)) .before .ticks .held)) (ahead (leap-at (c .before .before .before .before .before .before .before .before .before .before .before .before .before .before .before .before .before)) .whole))
+    (c .before .before .before .before .before .before .before .before .before .before .before .before .leap .ensures)
+    (c .before .before .before .before .before .before .before .before .before .info-at .ensures ∙ ap (λ (l : ℕ). infoAt (key (trailingZeros 16 (c .before .before .before .before .before .before .before .before .before .before .before .before .before .before .before .loop .rest)) l) (keysOf (board (entry (c .before .before .before .before .before .before .before .before .before .before .before .before .before .before .before .before .before)) .points)) (infosOf (board (entry (c .before .before .before .before .before .before .before .before .before .before .before .before .before .before .before .before .before)) .points))) (c .before .before .before .before .before .before .before .before .before .before .before .arrival .ensures))
+    (ap (λ (x : Staged). x .track) (c .before .before .before .before .before .before .before .step-member .ensures .0)) (ap (λ (x : Staged). x .count) (c .before .before .before .before .before .before .before .step-member .ensures .0)) (c .before .before .before .before .before .before .before .step-member .ensures .1)
+    (c .before .before .before .note .ensures .0) (c .before .before .before .note .ensures .1 .0) (c .before .before .before .note .ensures .1 .1) (c .before .stirs .ensures)
+
+add-t74 : tie.Need-add-t74 Inv-loop μ-loop Inv-ticks μ-ticks
+add-t74 c =
+    let n = short (c .before .before .before .before .before) in
+    omega (arith, c .before .before .before .before .before .before .before .smaller .ensures, whole (c .before .before .before .before .before .before .before .before .before) .clock)
+
+slice-aggregate-run-commands : tie.Need-slice-aggregate-run-commands Inv-loop μ-loop Inv-ticks μ-ticks
+slice-aggregate-run-commands c = search needs
+
+slice-aggregate-run-commands-2 : tie.Need-slice-aggregate-run-commands-2 Inv-loop μ-loop Inv-ticks μ-ticks
+slice-aggregate-run-commands-2 c = search needs
+
+run-commands-requires : tie.Need-run-commands-requires Inv-loop μ-loop Inv-ticks μ-ticks
+run-commands-requires c κs =
+    let k = c .before .before .before .before .loop in
+    let v = k .inv .steps in (
+      omega (arith, v .few-reached, v .reached-long),
+      (turning-rule _ _ _ _ _ (c .before .before .before .before .before .before .before .before .before .before .before .before .ticks .inv .1) _ _ _ _ _ _ _ _ (k .inv) (c .before .before .before .loop-test .left), omega (arith, v .few-reached, v .few-records, v .stage-long)),
+    )
+
+mul-commit : tie.Need-mul-commit Inv-loop μ-loop Inv-ticks μ-ticks
+mul-commit c = omega (arith, c .before .before .before .before .before .before .before .before .before .before .before .before .ticks .inv .0 .fits, c .before .before .before .before .before .before .before .before .before .before .before .before .before .before .before .before .before .good)
+
+slice-aggregate-commit : tie.Need-slice-aggregate-commit Inv-loop μ-loop Inv-ticks μ-ticks
+slice-aggregate-commit c = sym (done (c .before .before .before) .stage-long)
+
+mul-commit-2 : tie.Need-mul-commit-2 Inv-loop μ-loop Inv-ticks μ-ticks
+mul-commit-2 c = let f = few (c .before .before .before .before) in omega arith
+
+commit-requires : tie.Need-commit-requires Inv-loop μ-loop Inv-ticks μ-ticks
+commit-requires c κs =
+    let g = c .before .before .before .before .before .before .before .before .before .before .before .before .before .before .ticks .inv .0 in
+    let d = done (c .before .before .before .before) in
+    (omega (arith, g .fits, g .long, c .before .before .before .if7 .left), omega (arith, d .stage-long, few (c .before .before .before .before)))
+
+add-held : tie.Need-add-held Inv-loop μ-loop Inv-ticks μ-ticks
+add-held c = omega (arith, c .before .before .before .before .before .before .before .before .before .before .before .before .before .before .before .before .before .ticks .inv .0 .fits, c .before .before .before .before .before .before .if7 .left, c .before .before .before .before .before .before .before .before .before .before .before .before .before .before .before .before .before .before .before .before .before .before .good)
+
+add-clock-3 : tie.Need-add-clock-3 Inv-loop μ-loop Inv-ticks μ-ticks
+add-clock-3 c =
+    let n = short (c .before .before .before .before .before .before .before .before .before .before .before .before) in
+    omega (arith, c .before .before .before .before .before .before .before .before .before .before .before .before .before .before .smaller .ensures, whole (c .before .before .before .before .before .before .before .before .before .before .before .before .before .before .before .before) .clock)
+
+add-taken-3 : tie.Need-add-taken-3 Inv-loop μ-loop Inv-ticks μ-ticks
+add-taken-3 c =
+    let n = short (c .before .before .before .before .before .before .before .before .before .before .before .before) in
+    omega (arith, c .before .before .before .before .before .before .before .before .before .before .before .before .before .before .smaller .ensures, c .before .before .before .before .before .before .before .before .before .before .before .before .before .before .before .before .ticks-test .taken, bits (c .before .before .before .before .before .before .before .before .before .before .before .before .before .before .before .before .before .before .before .before .before .before))
+
+ticks-less-2 : tie.Need-ticks-less-2 Inv-loop μ-loop Inv-ticks μ-ticks
+ticks-less-2 c =
+    let j = c .before .before .before .before .before .before .before .before .before .before .before .before .before in
+    let k = turn j .before .ticks in
+    let s = shaped (turn j) in
+    let d = done (c .before .before .before .before .before .before .before) in
+    let n = short (c .before .before .before .before .before .before .before .before .before .before .before .before) in
+    let e = j .before .smaller .ensures in
+    walk-less _ _ _ (k .inv .0) (walked c) (turn j .ticks-test .taken) (omega (arith, j .before .before .if1 .left, whole (turn j) .clock)) (j .if2 .calm)
+    (unbroken-able _ s (whole (turn j))) (unbroken-telling _ s (whole (turn j))) (k .look) refl (d .tracks) (d .count) (omega arith)
+    (longest (c .before .before .before .before .before .before .before .before .before .before .before .before))
+
+ticks-again-2 : tie.Need-ticks-again-2 Inv-loop μ-loop Inv-ticks μ-ticks
+ticks-again-2 c =
+    let d = done (c .before .before .before .before .before .before .before) in
+    (walked c, d .word-is, d .stage-long, c .before .before .before .before .before .before .before .before .before .loop .inv .steps .reached-long)
+
+same-length : tie.Need-same-length Inv-loop μ-loop Inv-ticks μ-ticks
+same-length c = c .before .ticks .inv .0 .long
+
+returns : tie.Need-returns Inv-loop μ-loop Inv-ticks μ-ticks
+returns c = going-done _ _ _ _ _ _ _ _ _ (c .before .ticks .inv .0) (c .ticks-test .left)
+
+same-length-2 : tie.Need-same-length-2 Inv-loop μ-loop Inv-ticks μ-ticks
+same-length-2 c = c .before .before .ticks .inv .0 .long
+
+returns-2 : tie.Need-returns-2 Inv-loop μ-loop Inv-ticks μ-ticks
+returns-2 c = going-ends _ _ _ _ _ _ _ _ _ (c .before .before .ticks .inv .0) (c .before .ticks-test .taken) (c .if1 .taken)
+
+same-length-3 : tie.Need-same-length-3 Inv-loop μ-loop Inv-ticks μ-ticks
+same-length-3 c = c .before .before .before .before .before .before .before .before .before .before .before .before .before .before .before .before .before .before .before .before .before .before .before .ticks .inv .0 .long
+
+returns-3 : tie.Need-returns-3 Inv-loop μ-loop Inv-ticks μ-ticks
+returns-3 c =
+    let v = turning-step _ _ _ _ _ _ _ _ _ _ _ _ _ (c .before .before .before .before .before .before .before .before .before .before .before .before .before .before .before .loop .inv) (c .before .before .before .before .before .before .before .before .before .before .before .before .before .before .loop-test .taken) _ (whole-points (boardAt (board (entry (c .before .before .before .before .before .before .before .before .before .before .before .before .before .before .before .before .before))) (leapt (leap-at (c .before .before .before .before .before .before .before .before .before .before .before .before .before .before .before .before .before))) (turn (leap-at (c .before .before .before .before .before .before .before .before .before .before .before .before .before .before .before .before .before)) .before .ticks .clock + leap-at (c .before .before .before .before .before .before .before .before .before .before .before .before .before .before .before .before .before) .if2 .calm) (turn (leap-at (c .before .before .before .before .before .before .before .before .before .before .before .before .before .before .before .before .before)) .before .ticks .held)) (ahead (leap-at (c .before .before .before .before .before .before .before .before .before .before .before .before .before .before .before .before .before)) .whole))
+    (c .before .before .before .before .before .before .before .before .before .before .before .before .leap .ensures)
+    (c .before .before .before .before .before .before .before .before .before .info-at .ensures ∙ ap (λ (l : ℕ). infoAt (key (trailingZeros 16 (c .before .before .before .before .before .before .before .before .before .before .before .before .before .before .before .loop .rest)) l) (keysOf (board (entry (c .before .before .before .before .before .before .before .before .before .before .before .before .before .before .before .before .before)) .points)) (infosOf (board (entry (c .before .before .before .before .before .before .before .before .before .before .before .before .before .before .before .before .before)) .points))) (c .before .before .before .before .before .before .before .before .before .before .before .arrival .ensures))
+    (ap (λ (x : Staged). x .track) (c .before .before .before .before .before .before .before .step-member .ensures .0)) (ap (λ (x : Staged). x .count) (c .before .before .before .before .before .before .before .step-member .ensures .0)) (c .before .before .before .before .before .before .before .step-member .ensures .1)
+    (c .before .before .before .note .ensures .0) (c .before .before .before .note .ensures .1 .0) (c .before .before .before .note .ensures .1 .1) (c .before .stirs .ensures) in
+    let o = turning-over _ _ _ _ _ (c .before .before .before .before .before .before .before .before .before .before .before .before .before .before .before .before .before .before .before .before .before .before .before .ticks .inv .1) _ _ _ _ _ _ _ _ v in
+    full (c .before .before .before .before .before .before .before .before .before .before .before .before .before .before .before .before .before) (omega (arith, c .if5 .taken, v .steps .few-records)) (omega (arith, c .if5 .taken))
+
+same-length-4 : tie.Need-same-length-4 Inv-loop μ-loop Inv-ticks μ-ticks
+same-length-4 c = c .before .before .before .before .before .before .before .before .before .before .before .ticks .inv .0 .long
+
+returns-4 : tie.Need-returns-4 Inv-loop μ-loop Inv-ticks μ-ticks
+returns-4 c =
+    let d = done (c .before) in
+    full (c .before .before .before .before .before) (omega (arith, c .if7 .taken, few (c .before))) (omega (arith, c .if7 .taken, d .count))
+
+pub run-spec : {M : Type 1} → statement M
+run-spec =
+    tie.close
+    (tie.spec
+    Inv-loop
+    μ-loop
+    Inv-ticks
+    μ-ticks
+    playing-requires
+    ticks-holds
+    sub-smaller
+    sub-smaller-2
+    smaller-requires
+    quiet-requires
+    smaller-requires-2
+    leapt-requires
+    add-clock
+    add-taken
+    ticks-less
+    ticks-again
+    sub-room
+    leapt-requires-2
+    add-clock-2
+    add-taken-2
+    loop-holds
+    cast-i
+    mul-s
+    array-copy-out-s
+    leap-requires
+    arrival-requires
+    cast-here
+    mul-here
+    add-here
+    info-at-requires
+    cast-step-member
+    add-t56
+    slice-aggregate-step-member
+    step-member-requires
+    mul-tracks
+    array-set-from-tracks
+    slice-aggregate-note
+    note-requires
+    stirs-requires
+    cast-rest
+    shl-rest
+    sub-rest
+    sub-left
+    loop-less
+    loop-again
+    add-t74
+    slice-aggregate-run-commands
+    slice-aggregate-run-commands-2
+    run-commands-requires
+    mul-commit
+    slice-aggregate-commit
+    mul-commit-2
+    commit-requires
+    add-held
+    add-clock-3
+    add-taken-3
+    ticks-less-2
+    ticks-again-2
+    same-length
+    returns
+    same-length-2
+    returns-2
+    same-length-3
+    returns-3
+    same-length-4
+    returns-4)

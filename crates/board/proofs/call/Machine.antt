@@ -1,0 +1,341 @@
+-- The board as a machine of lists of calls: it keeps what the theory of lists asks of its rules.
+use Prim.Native.Nat.{ℕ, zero, suc, _+_, _*_, _≤_, _<_}
+use mathlib.Core.Path.{_≡_, refl, sym, _∙_, ap, subst}
+use mathlib.Core.Bool.{Bool, true, false, cond}
+use mathlib.Core.List.{List, [], _∷_, _++_}
+use mathlib.Core.Logic.{_⊎_, inl, inr}
+use mathlib.Core.Option.{Option, none, some, Option·none-ne-some}
+use native.Mathlib.Nat.{add-zero, add-assoc, mul-comm}
+use native.Mathlib.Omega.{arith}
+use lib.Dec.{leb}
+use lib.IntN.{ℤ}
+use lib.ListN.{length}
+use lib.Seq.{sets}
+use borrow.Author.Tests.{leb-true, leb-false, le-leb}
+use Rattle.track.specs.declared.grid.Decision.{Decision}
+use Rattle.track.specs.declared.grid.Decision.the-variants as decision
+use Rattle.track.specs.declared.setup.Change.{Change}
+use Rattle.track.specs.Rule.{WAITING, clockEnd, entered}
+use Rattle.track.specs.Grid.{PLAY, PAUSE, RESUME, STOP, gridOf}
+use Rattle.track.proofs.Tests.{cond-cases}
+use Rattle.track.proofs.Arrivals.{entered-valid, entered-passes}
+use Rattle.board.specs.Log.{writeAt, recordWidth, recordBytes, logBytes, capacity}
+use Rattle.board.specs.declared.Board.{Board}
+use Rattle.board.specs.declared.log.Record.{Record}
+use Rattle.board.specs.declared.setup.Outcome.{Outcome}
+use Rattle.board.specs.declared.call.Call.{Call}
+use Rattle.board.specs.declared.call.Call.the-variants as call
+use Rattle.board.specs.Points.{keysOf, infosOf}
+use Rattle.board.specs.Board.{trackAt, isPresent, unbrokenTest, foundIn}
+use Rattle.board.specs.Setup.{boardWith, setUp, addTrack, setPoint, dropPoint, clearBoard}
+use Rattle.board.specs.Tick.{tickOf}
+use Rattle.board.specs.Mode.{Ruling, declined, callRecords, changing, changesTo, decided, modeRuling, Follows}
+use Rattle.board.specs.Cut.{ticks, Part, run, one}
+use Rattle.board.specs.Replay.{Made, World, flat, wrote, w-halt, w-bar, w-step, perform}
+use Rattle.board.specs.Call.{refused, answered, Stop, ends, fills, stoppedBy, Reason, stopped, refusedWith, takenIn, whyNot, ticked, grownBy}
+use Rattle.board.specs.Call.{haltOf, barOf, madeOf, madeBy, saysOf, makesOf, gridstep, countOf, does, world, Gives}
+use Rattle.board.proofs.log.Records.{length-record}
+use Rattle.board.proofs.tick.Staging.{length-log, write-none}
+use Rattle.board.proofs.rules.Broken.{Shaped, unbroken-of}
+use Rattle.board.proofs.setup.Ways.{by-natural, set-up-ways, add-track-ways, set-point-ways, drop-point-ways, clear-ways}
+use Rattle.board.proofs.rules.Present.{found-in}
+use Rattle.board.proofs.tick.Commands.{Goes?, grid-goes}
+use Rattle.board.proofs.tick.Steps.{entered-bounded, tick-long, tick-keeps}
+use Rattle.board.proofs.setup.Keeping.{Whole, whole-test, put-track-whole, held-whole, set-up-whole, add-track-whole, set-point-whole, drop-point-whole, clear-whole}
+use Rattle.board.proofs.replay.Cuts.{ticks-on, ticks-off, advance-in, advance-out, Read}
+use Rattle.board.proofs.replay.Replays.{Counts, Room, sets-write}
+
+-- the bytes of records, as the theory of lists has them
+pub flat-is : (rs : List Record) → flat gridstep rs ≡ logBytes rs
+unfolding logBytes
+flat-is [] = refl
+flat-is (r ∷ rs) = ap (λ (l : List ℕ). recordBytes r ++ l) (flat-is rs)
+
+-- ---- the mode calls
+
+module _ (b : Board) (n : ℕ) (P : Ruling → Type 0) (declines : (k : ℕ) → P (declined k b)) where
+  -- a mode call is refused, or takes a present track to a mode, with a record that fits
+  pub ruling-ways :
+      ((i mode : ℕ) → isPresent (b .present) i ≡ true → mode ≤ WAITING → b .held + length (callRecords b i mode) ≤ capacity n → P (changing b i mode)) →
+      (track : ℤ) (call : ℕ) → P (modeRuling b n track call)
+  unfolding modeRuling decided changesTo
+  ruling-ways does track call =
+      cond-cases P (unbrokenTest b)
+      (λ _. cond-cases P (leb (b .held) (capacity n))
+      (λ _. by-natural P (foundIn (b .present) track) _ (declined 1 b)
+      (λ i e. go i (found-in (b .present) track e) (gridOf (trackAt (b .tracks) i .mode) call) (grid-goes (trackAt (b .tracks) i .mode) call))
+      (declines 1)) (λ _. declines 7)) (λ _. declines 3)
+    where
+      go : (i : ℕ) → isPresent (b .present) i ≡ true → (d : Decision) → Goes? d → P (decided b n i d)
+      go i h (decision.Goes mode) g =
+          cond-cases P (leb (b .held + length (callRecords b i mode)) (capacity n)) (λ e. does i mode h g (leb-true _ _ e)) (λ _. declines 8)
+      go i h decision.Refused g = declines 2
+
+module _ (b : Board) (log : List ℕ) where
+  -- storing the records of a mode call is writing them
+  ruling-log : (track : ℤ) (code : ℕ) →
+      let m = modeRuling b (length log) track code in
+      writeAt log (m .board .held * recordWidth) (logBytes (m .records)) ≡ sets log (recordWidth * m .board .held) (flat gridstep (m .records))
+  unfolding logBytes
+  ruling-log =
+      ruling-ways b (length log)
+      (λ (m : Ruling). writeAt log (m .board .held * recordWidth) (logBytes (m .records)) ≡ sets log (recordWidth * m .board .held) (flat gridstep (m .records)))
+      (λ k. write-none log (b .held * recordWidth))
+      (λ i mode _ _ fits.
+      let rs = callRecords b i mode in
+      let l = length-log rs in
+      sym (sets-write log (logBytes rs) (b .held * recordWidth) (omega arith))
+      ∙ (λ j. sets log (mul-comm (b .held) recordWidth j) (sym (flat-is rs) j)))
+
+  -- what follows a mode call's ruling is what the call gives
+  ruling-gives : (given : ℤ) (code : ℕ) (r : Outcome) (after : List ℕ) →
+      let m = modeRuling b (length log) given code in
+      Follows m r log after →
+      Gives (record { answer = answered (m .answer); left = wrote gridstep (madeBy m) (world b log) }) (answered (r .answer)) (r .board) after
+  ruling-gives given code r after f = record { answer-is = ap answered (f .answer-is); board-is = f .board-is; log-is = f .log-is ∙ ruling-log given code }
+
+  -- the same of each of the four, the number of the track as it was given
+  module _ (r : Outcome) (after : List ℕ) {given track : ℤ} (e : given ≡ track) where
+    pub play-gives : Follows (modeRuling b (length log) given PLAY) r log after →
+        Gives (does (call.Play track) (world b log)) (answered (r .answer)) (r .board) after
+    unfolding countOf saysOf makesOf
+    play-gives f = subst (λ (t : ℤ). Gives (does (call.Play t) (world b log)) (answered (r .answer)) (r .board) after) e (ruling-gives given PLAY r after f)
+
+    pub pause-gives : Follows (modeRuling b (length log) given PAUSE) r log after →
+        Gives (does (call.Pause track) (world b log)) (answered (r .answer)) (r .board) after
+    unfolding countOf saysOf makesOf
+    pause-gives f = subst (λ (t : ℤ). Gives (does (call.Pause t) (world b log)) (answered (r .answer)) (r .board) after) e (ruling-gives given PAUSE r after f)
+
+    pub resume-gives : Follows (modeRuling b (length log) given RESUME) r log after →
+        Gives (does (call.Resume track) (world b log)) (answered (r .answer)) (r .board) after
+    unfolding countOf saysOf makesOf
+    resume-gives f = subst (λ (t : ℤ). Gives (does (call.Resume t) (world b log)) (answered (r .answer)) (r .board) after) e (ruling-gives given RESUME r after f)
+
+    pub stop-gives : Follows (modeRuling b (length log) given STOP) r log after →
+        Gives (does (call.Stop track) (world b log)) (answered (r .answer)) (r .board) after
+    unfolding countOf saysOf makesOf
+    stop-gives f = subst (λ (t : ℤ). Gives (does (call.Stop t) (world b log)) (answered (r .answer)) (r .board) after) e (ruling-gives given STOP r after f)
+
+-- ---- records in the log
+
+-- records have one length, and growing adds up
+pub counts : Counts gridstep
+counts = record {
+  bytes-length = length-record;
+  held-grown = λ b n. refl;
+  grown-zero = λ b. ap (λ (k : ℕ). boardWith b (b .tracks) (b .present) (b .points) k) (add-zero (b .held));
+  grown-grown = λ b m n. ap (λ (k : ℕ). boardWith b (b .tracks) (b .present) (b .points) k) (add-assoc (b .held) m n);
+}
+
+-- a tick that nothing stops is below the clock's end, and its records fit
+pub halt-none : (n : ℕ) (b : Board) → haltOf n b ≡ none → (b .clock .0 < clockEnd) × (b .held + length (tickOf b .records) ≤ capacity n)
+unfolding haltOf
+halt-none n b = go (leb clockEnd (b .clock .0)) (leb (b .held + length (tickOf b .records)) (capacity n)) refl refl
+  where
+    go : (p q : Bool) → leb clockEnd (b .clock .0) ≡ p → leb (b .held + length (tickOf b .records)) (capacity n) ≡ q →
+        cond p (some ends) (cond q none (some fills)) ≡ none → (b .clock .0 < clockEnd) × (b .held + length (tickOf b .records) ≤ capacity n)
+    go true q ep eq h = absurd (Option·none-ne-some ends (sym h))
+    go false true ep eq h = (leb-false _ _ ep, leb-true _ _ eq)
+    go false false ep eq h = absurd (Option·none-ne-some fills (sym h))
+
+-- an advance that nothing bars finds an unbroken board, whose held records are in the log
+pub bar-none : (n : ℕ) (b : Board) → barOf n b ≡ none → (unbrokenTest b ≡ true) × (b .held ≤ capacity n)
+unfolding barOf
+bar-none n b = go (unbrokenTest b) (leb (b .held) (capacity n)) refl refl
+  where
+    go : (p q : Bool) → unbrokenTest b ≡ p → leb (b .held) (capacity n) ≡ q →
+        cond {A = Option ℕ} p (cond {A = Option ℕ} q none (some 7)) (some 3) ≡ none → (unbrokenTest b ≡ true) × (b .held ≤ capacity n)
+    go true true ep eq h = (ep, leb-true _ _ eq)
+    go true false ep eq h = absurd (Option·none-ne-some 7 (sym h))
+    go false q ep eq h = absurd (Option·none-ne-some 3 (sym h))
+
+-- a tick that is taken brings no bar
+pub kept : (n : ℕ) (b : Board) → barOf n b ≡ none → haltOf n b ≡ none → barOf n (grownBy (ticked b) (length (tickOf b .records))) ≡ none
+unfolding barOf
+kept n b g h =
+    let u = tick-keeps b (b .held + length (tickOf b .records)) (bar-none n b g .0) (halt-none n b h .0) in
+    rw (u, le-leb (b .held + length (tickOf b .records)) (capacity n) (halt-none n b h .1))
+
+-- ---- what a call leaves of the held records
+
+module _ (b : Board) where
+  -- no call but a mode call makes more of them
+  abbrev Low : Outcome → Type 0
+  Low o = o .board .held ≤ b .held
+
+  set-up-low : (track : ℤ) (c : Change) → Low (setUp b track c)
+  set-up-low track c = set-up-ways b Low (λ k. omega arith) track c (λ i _. omega arith)
+
+  add-track-low : (number min max : ℤ) → Low (addTrack b number min max)
+  add-track-low number min max = add-track-ways b Low (λ k. omega arith) number min max (λ i low high _ _ _ _. omega arith)
+
+  set-point-low : (track position event wait command target : ℤ) → Low (setPoint b track position event wait command target)
+  set-point-low track position event wait command target =
+      set-point-ways b Low (λ k. omega arith) track position event wait command target (λ p _ _. omega arith)
+
+  drop-point-low : (track position : ℤ) → Low (dropPoint b track position)
+  drop-point-low track position = drop-point-ways b Low (λ k. omega arith) track position (λ k _. omega arith)
+
+  clear-low : Low (clearBoard b)
+  clear-low = clear-ways b Low (λ k. omega arith) (omega arith)
+
+  mode-held : (n : ℕ) (track : ℤ) (code : ℕ) → modeRuling b n track code .board .held ≡ b .held
+  mode-held n = ruling-ways b n (λ (m : Ruling). m .board .held ≡ b .held) (λ k. refl) (λ i mode _ _ _. refl)
+
+  mode-fits : (n : ℕ) → recordWidth * b .held ≤ n → (track : ℤ) (code : ℕ) →
+      let m = modeRuling b n track code in
+      recordWidth * (m .board .held + length (m .records)) ≤ n
+  mode-fits n h =
+      ruling-ways b n (λ (m : Ruling). recordWidth * (m .board .held + length (m .records)) ≤ n) (λ k. omega arith) (λ i mode _ _ fits. omega arith)
+
+-- what a call makes: it writes no record and makes no more held ones, or leaves the held ones
+abbrev Holds : Board → Made Board Record → Type 0
+Holds b m = ((m .records ≡ []) × (m .board .held ≤ b .held)) ⊎ (m .board .held ≡ b .held)
+
+call-held : (c : Call) (n : ℕ) (b : Board) → Holds b (makesOf c n b)
+unfolding makesOf
+call-held (call.AddTrack i lo hi) n b = inl (refl, add-track-low b i lo hi)
+call-held (call.SetUp i c) n b = inl (refl, set-up-low b i c)
+call-held (call.SetPoint i p e w c g) n b = inl (refl, set-point-low b i p e w c g)
+call-held (call.DropPoint i p) n b = inl (refl, drop-point-low b i p)
+call-held (call.Play i) n b = inr (mode-held b n i PLAY)
+call-held (call.Pause i) n b = inr (mode-held b n i PAUSE)
+call-held (call.Resume i) n b = inr (mode-held b n i RESUME)
+call-held (call.Stop i) n b = inr (mode-held b n i STOP)
+call-held (call.Advance k) n b = inr refl
+call-held call.Clear n b = inl (refl, clear-low b)
+call-held call.Clock n b = inr refl
+call-held (call.Track i) n b = inr refl
+call-held (call.Point i p) n b = inr refl
+call-held (call.PointCount i from to) n b = inr refl
+
+abbrev FitsIn : ℕ → Made Board Record → Type 0
+FitsIn n m = recordWidth * (m .board .held + length (m .records)) ≤ n
+
+low-fits : (b : Board) (n : ℕ) (o : Outcome) → Low b o → recordWidth * b .held ≤ n → FitsIn n (madeOf o)
+low-fits b n o l h = omega arith
+
+call-fits : (c : Call) (n : ℕ) (b : Board) → recordWidth * b .held ≤ n → FitsIn n (makesOf c n b)
+unfolding makesOf
+call-fits (call.AddTrack i lo hi) n b h = low-fits b n (addTrack b i lo hi) (add-track-low b i lo hi) h
+call-fits (call.SetUp i c) n b h = low-fits b n (setUp b i c) (set-up-low b i c) h
+call-fits (call.SetPoint i p e w c g) n b h = low-fits b n (setPoint b i p e w c g) (set-point-low b i p e w c g) h
+call-fits (call.DropPoint i p) n b h = low-fits b n (dropPoint b i p) (drop-point-low b i p) h
+call-fits (call.Play i) n b h = mode-fits b n h i PLAY
+call-fits (call.Pause i) n b h = mode-fits b n h i PAUSE
+call-fits (call.Resume i) n b h = mode-fits b n h i RESUME
+call-fits (call.Stop i) n b h = mode-fits b n h i STOP
+call-fits (call.Advance k) n b h = omega arith
+call-fits call.Clear n b h = low-fits b n (clearBoard b) (clear-low b) h
+call-fits call.Clock n b h = omega arith
+call-fits (call.Track i) n b h = omega arith
+call-fits (call.Point i p) n b h = omega arith
+call-fits (call.PointCount i from to) n b h = omega arith
+
+-- records are written only where they fit, and a call that lets held ones go writes none
+pub room : Room gridstep
+room = record {
+  tick-held = λ b. refl;
+  tick-fits = λ n b e. let f = halt-none n b e .1 in omega arith;
+  call-held = call-held;
+  call-fits = call-fits;
+}
+
+-- ---- answers to an advance
+
+-- the ticks taken and the reason are read from the answer
+unfoldable pub read : Read Reason stoppedBy refused
+read = record {
+  taken = takenIn;
+  why = whyNot;
+  stop = stopped;
+  refusal = refusedWith;
+  taken-done = taken-done;
+  taken-refuse = λ k. refl;
+  why-none = λ t. refl;
+  why-some = why-some;
+  why-refuse = λ k. refl;
+}
+  where
+    taken-done : (t : ℕ) (o : Option Stop) → takenIn (stoppedBy t o) ≡ t
+    taken-done t none = refl
+    taken-done t (some ends) = refl
+    taken-done t (some fills) = refl
+
+    why-some : (t : ℕ) (e : Stop) → whyNot (stoppedBy t (some e)) ≡ some (stopped e)
+    why-some t ends = refl
+    why-some t fills = refl
+
+-- ---- no mode call and no tick makes a broken board
+
+module _ (b : Board) (w : Whole b) (held : ℕ) where
+  -- no mode call breaks a board, whatever is held
+  pub mode-whole : (n : ℕ) (track : ℤ) (code : ℕ) →
+      let c = modeRuling b n track code .board in
+      Whole (boardWith c (c .tracks) (c .present) (c .points) held)
+  mode-whole n track code =
+      held-whole (modeRuling b n track code .board)
+      (ruling-ways b n (λ (m : Ruling). Whole (m .board)) (λ k. w)
+      (λ i mode h l _.
+      let t = trackAt (b .tracks) i in
+      let s = w .unbroken .tracks i h in
+      let k = entered-bounded (t .min) (t .max) t (refl, refl) mode in
+      put-track-whole b w i (entered t mode) h
+      (record { valid = entered-valid t (s .valid) mode l; passes = omega (arith, s .passes, entered-passes t mode) }) (k .0) (k .1))
+      track code) held
+
+  -- nor does a tick below the clock's end
+  pub tick-whole : b .clock .0 < clockEnd →
+      let c = ticked b in
+      Whole (boardWith c (c .tracks) (c .present) (c .points) held)
+  tick-whole l =
+      let s : Shaped (boardWith (ticked b) (tickOf b .tracks) (b .present) (b .points) held) =
+      record {
+        tracks = tick-long (keysOf (b .points)) (infosOf (b .points)) (b .clock .0 + 1) (b .present) (b .tracks) ∙ w .shaped .tracks;
+        keys = w .shaped .keys;
+        infos = w .shaped .infos;
+      } in
+      record { shaped = s; unbroken = unbroken-of _ s (tick-keeps b held (whole-test b w) l) }
+
+  -- nor any other call
+  pub made-whole : (c : Call) (n : ℕ) →
+      let m = makesOf c n b .board in
+      Whole (boardWith m (m .tracks) (m .present) (m .points) held)
+  unfolding makesOf
+  made-whole (call.AddTrack i lo hi) n = held-whole _ (add-track-whole b w i lo hi) held
+  made-whole (call.SetUp i c) n = held-whole _ (set-up-whole b w i c) held
+  made-whole (call.SetPoint i p e f c g) n = held-whole _ (set-point-whole b w i p e f c g) held
+  made-whole (call.DropPoint i p) n = held-whole _ (drop-point-whole b w i p) held
+  made-whole (call.Play i) n = mode-whole n i PLAY
+  made-whole (call.Pause i) n = mode-whole n i PAUSE
+  made-whole (call.Resume i) n = mode-whole n i RESUME
+  made-whole (call.Stop i) n = mode-whole n i STOP
+  made-whole (call.Advance k) n = held-whole b w held
+  made-whole call.Clear n = held-whole _ (clear-whole b w) held
+  made-whole call.Clock n = held-whole b w held
+  made-whole (call.Track i) n = held-whole b w held
+  made-whole (call.Point i p) n = held-whole b w held
+  made-whole (call.PointCount i from to) n = held-whole b w held
+
+-- nor any number of ticks
+ticks-whole : (n : ℕ) (w : World Board) → Whole (w .board) → Whole (ticks (w-halt gridstep) (w-step gridstep) n w .end .board)
+unfolding ticks
+ticks-whole zero w h = h
+ticks-whole (suc n) w h = go (w-halt gridstep w) refl (ticks-whole n (w-step gridstep w))
+  where
+    go : (o : Option Stop) → w-halt gridstep w ≡ o →
+        (Whole (w-step gridstep w .board) → Whole (ticks (w-halt gridstep) (w-step gridstep) n (w-step gridstep w) .end .board)) →
+        Whole (ticks (w-halt gridstep) (w-step gridstep) (suc n) w .end .board)
+    go none e more =
+        rw (ticks-on (w-halt gridstep) (w-step gridstep) n w e)
+        (more (tick-whole (w .board) h _ (halt-none (length (w .log)) (w .board) e .0)))
+    go (some x) e more = rw (ticks-off (w-halt gridstep) (w-step gridstep) n w x e) h
+
+-- no call makes a broken board
+pub call-whole : (p : Part Call) (w : World Board) → Whole (w .board) → Whole (perform gridstep p w .left .board)
+call-whole (one c) w h = made-whole (w .board) h _ c (length (w .log))
+call-whole (run n) w h = go (w-bar gridstep w) refl
+  where
+    go : (o : Option ℕ) → w-bar gridstep w ≡ o → Whole (perform gridstep (run n) w .left .board)
+    go none e = rw (advance-in (w-halt gridstep) (w-step gridstep) (w-bar gridstep) stoppedBy refused n w e) (ticks-whole n w h)
+    go (some k) e = rw (advance-out (w-halt gridstep) (w-step gridstep) (w-bar gridstep) stoppedBy refused n w k e) h

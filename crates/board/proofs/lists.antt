@@ -1,0 +1,5 @@
+pub mod Runs
+pub mod Reports
+pub mod Replayed
+pub mod Executing
+pub mod Cards

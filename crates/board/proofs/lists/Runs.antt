@@ -1,0 +1,39 @@
+-- A list of calls on a board and a log, computed: what the rule says that they answer and leave.
+use Prim.Native.Nat.{ℕ}
+use mathlib.Core.List.{List}
+use Rattle.track.specs.Rule.{newTrack, entered, every, orderedTest, eventsTest, cellsTest, validTest, soundTest}
+use Rattle.track.specs.Number.{coordinateOf, within, naturalOf, valueOf}
+use Rattle.track.specs.Grid.{gridOf}
+use Rattle.track.specs.Walk.{arrival, passesAt, stops, visited, step}
+use Rattle.track.specs.Setup.{settled, permits, startSet, endSet, loopsSet, repeatSet, directionSet, actionSet, jumpTo, setBy, changedBy}
+use Rattle.board.specs.declared.Board.{Board}
+use Rattle.board.specs.declared.call.Call.{Call}
+use Rattle.board.specs.Log.{le, twosOf, recordBytes, logBytes}
+use Rattle.board.specs.Points.{keyOf, infoOf, pointOf, hasKey, firstFrom, insertAt, insertRow, noPoints, infoAt, replaced, added, storedIn}
+use Rattle.board.specs.Board.{isPresent, tracksTest, placeTest, deedTest, pointsTest, unbrokenParts, freshBoard, foundIn}
+use Rattle.board.specs.Setup.{setUp, addTrack, drawnFrom, setPoint}
+use Rattle.board.specs.Tick.{membersFrom}
+use Rattle.board.specs.Tick.{waits, pointRecords, changeRecords, playingWord, stepRecords, stepMember, stepAll, commandRecords, commanded, runCommand, runAll, tickFrom}
+use Rattle.board.specs.Mode.{changesTo, decided, modeRuling}
+use Rattle.board.specs.Cut.{All, ticks, advance, performs}
+use Rattle.board.specs.Replay.{World, perform}
+use Rattle.board.specs.Call.{Reply, gridstep, haltOf, barOf, saysOf, makesOf, countOf}
+use Rattle.board.specs.Lists.{cutUp}
+
+-- to unfold it is to compute with the rule: all its definitions but those of drop point, clear and the queries
+unfoldable pub ran : List Call → World Board → All Reply (World Board)
+unfolding newTrack entered every orderedTest eventsTest cellsTest validTest soundTest coordinateOf within naturalOf valueOf gridOf arrival passesAt stops visited step settled permits startSet endSet loopsSet repeatSet directionSet actionSet jumpTo setBy changedBy le twosOf recordBytes logBytes keyOf infoOf pointOf hasKey firstFrom insertAt insertRow noPoints infoAt replaced added storedIn isPresent tracksTest placeTest deedTest pointsTest unbrokenParts freshBoard foundIn setUp addTrack drawnFrom setPoint membersFrom waits pointRecords changeRecords playingWord stepRecords stepMember stepAll commandRecords commanded runCommand runAll tickFrom changesTo decided modeRuling ticks advance haltOf barOf saysOf makesOf countOf
+ran calls w = performs (perform gridstep) (cutUp calls) w
+
+-- what is seen of it: all answers, and at the end the clock, the number of records held and the log
+pub record Shown : Type 0 where
+  pub answers : List Reply
+  pub clock : ℕ
+  pub held : ℕ
+  pub log : List ℕ
+
+abbrev pub seen : All Reply (World Board) → Shown
+seen r = record { answers = r .answers; clock = r .last .board .clock .0; held = r .last .board .held; log = r .last .log }
+
+abbrev pub shown : List Call → World Board → Shown
+shown calls w = seen (ran calls w)

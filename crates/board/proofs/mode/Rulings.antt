@@ -1,0 +1,114 @@
+-- What a mode call comes to on each way out, and that what follows its ruling is what the call gives.
+use Prim.Native.Nat.{ℕ, _+_, _*_, _≤_, _<_}
+use mathlib.Core.Path.{_≡_, refl, sym, _∙_, ap, subst}
+use mathlib.Core.List.{List, [], _∷_}
+use native.Mathlib.Nat.{add-zero}
+use native.Mathlib.Omega.{arith}
+use lib.IntN.{ℤ}
+use lib.ListN.{length, set}
+use lib.Seq.{set-getD}
+use borrow.Author.Tests.{eq-eqb, ne-eqb, le-leb, lt-leb}
+use Rattle.track.specs.declared.Track.{Track}
+use Rattle.track.specs.declared.setup.Answer.the-variants.{Accepted, Refused}
+use Rattle.track.specs.Rule.{actionCell, entered}
+use Rattle.track.proofs.Tests.{cond-yes, cond-no}
+use Rattle.board.specs.Log.{writeAt, recordWidth, logBytes, capacity}
+use Rattle.board.specs.declared.Board.{Board}
+use Rattle.board.specs.declared.log.Record.{Record}
+use Rattle.board.specs.declared.setup.Outcome.{Outcome}
+use Rattle.board.proofs.tick.Staging.{write-none}
+use Rattle.board.specs.Board.{noTrack, trackAt}
+use Rattle.board.specs.Setup.{refused, accepted, boardWith}
+use Rattle.board.specs.Tick.{recordOf, changeRecords}
+use Rattle.board.specs.Mode.{Ruling, declined, callRecords, changesTo, modeRuling, Follows, outcomeOf}
+use Rattle.board.specs.declared.mode.Ruled.{Ruled}
+
+-- by the track's number as it was given
+pub follows-told : (b : Board) (n call : ℕ) {told given : ℤ} {r : Outcome} {before after : List ℕ} → told ≡ given →
+    Follows (modeRuling b n told call) r before after → Follows (modeRuling b n given call) r before after
+follows-told b n call {r = r} {before} {after} e f = subst (λ (t : ℤ). Follows (modeRuling b n t call) r before after) e f
+
+-- a refusal follows a ruling that declines
+pub follows-declined : (k : ℕ) (b : Board) (log : List ℕ) {m : Ruling} {r : Outcome} → declined k b ≡ m → r ≡ refused k b → Follows m r log log
+unfolding logBytes
+follows-declined k b log {m} {r} e q =
+    subst (λ (m : Ruling). Follows m r log log) e
+    (record {
+      answer-is = ap (λ (o : Outcome). o .answer) q;
+      board-is = ap (λ (o : Outcome). o .board) q ∙ ap (λ (h : ℕ). boardWith b (b .tracks) (b .present) (b .points) h) (sym (add-zero (b .held)));
+      log-is = sym (write-none log (b .held * recordWidth));
+    })
+
+-- a call that is declined leaves the board as it is
+pub unmoved : (k : ℕ) (b : Board) {r : Ruled} → r ≡ record { answer = Refused k; at = 0; track = trackAt (b .tracks) 0; held = b .held } → outcomeOf b r ≡ refused k b
+unmoved k b e =
+    ap (outcomeOf b) e
+    ∙ ap (λ (ts : List Track). refused k (boardWith b ts (b .present) (b .points) (b .held))) (set-getD (b .tracks) 0 noTrack)
+
+-- the board after a change, from the track that the callee gave
+pub changed-with : (b : Board) (i held : ℕ) {t u : Track} → t ≡ u →
+    accepted (boardWith b (set (b .tracks) i t) (b .present) (b .points) held) ≡ accepted (boardWith b (set (b .tracks) i u) (b .present) (b .points) held)
+changed-with b i held e = ap (λ (t : Track). accepted (boardWith b (set (b .tracks) i t) (b .present) (b .points) held)) e
+
+module _ (b : Board) (n i mode : ℕ) where
+  abbrev pub changed : Board
+  changed = boardWith b (set (b .tracks) i (entered (trackAt (b .tracks) i) mode)) (b .present) (b .points) (b .held)
+
+  abbrev pub cell : ℕ
+  cell = actionCell (trackAt (b .tracks) i) (trackAt (b .tracks) i .mode) mode
+
+  abbrev pub noteOf : ℕ → Record
+  noteOf event =
+      let t = trackAt (b .tracks) i in
+      recordOf (b .clock .0) i 2 event (t .mode * 16 + mode) (t .position .0) (t .passes .0)
+
+  silent : cell ≡ 0 → callRecords b i mode ≡ []
+  unfolding changeRecords
+  silent e = simp (eq-eqb _ _ e)
+
+  noted : (cell ≡ 0 → ⊥) → callRecords b i mode ≡ noteOf cell ∷ []
+  unfolding changeRecords
+  noted e = simp (ne-eqb _ _ e)
+
+  module _ {r : Outcome} {before : List ℕ} {m : Ruling} (e : changesTo b n i mode ≡ m) where
+    -- a change without a record never gets 8
+    pub follows-silent : cell ≡ 0 → b .held ≤ capacity n → r ≡ accepted changed → Follows m r before before
+    unfolding changesTo logBytes
+    follows-silent z h q =
+        subst (λ (m : Ruling). Follows m r before before) (made ∙ e)
+        (record {
+          answer-is = ap (λ (o : Outcome). o .answer) q;
+          board-is = ap (λ (o : Outcome). o .board) q
+              ∙ ap (λ (h : ℕ). boardWith changed (changed .tracks) (changed .present) (changed .points) h) (sym (add-zero (b .held)));
+          log-is = sym (write-none before (b .held * recordWidth));
+        })
+      where
+        made : record { answer = Accepted; board = changed; records = [] } ≡ changesTo b n i mode
+        made =
+            cond-yes _ _ (le-leb (b .held + length (callRecords b i mode)) (capacity n) (omega (arith, ap length (silent z))))
+            (ap (λ (rs : List Record). record { answer = Accepted; board = changed; records = rs }) (sym (silent z)))
+
+    -- the change's records are written behind the held ones
+    pub follows-noted : {held : ℕ} {after : List ℕ} → (cell ≡ 0 → ⊥) → b .held < capacity n →
+        r ≡ accepted (boardWith b (set (b .tracks) i (entered (trackAt (b .tracks) i) mode)) (b .present) (b .points) held) →
+        held ≡ b .held + length (callRecords b i mode) → after ≡ writeAt before (b .held * recordWidth) (logBytes (callRecords b i mode)) →
+        Follows m r before after
+    unfolding changesTo
+    follows-noted {held} {after} z h q c l =
+        subst (λ (m : Ruling). Follows m r before after) (made ∙ e)
+        (record {
+          answer-is = ap (λ (o : Outcome). o .answer) q;
+          board-is = ap (λ (o : Outcome). o .board) q
+              ∙ ap (λ (k : ℕ). boardWith changed (changed .tracks) (changed .present) (changed .points) k) c;
+          log-is = l;
+        })
+      where
+        made : record { answer = Accepted; board = changed; records = callRecords b i mode } ≡ changesTo b n i mode
+        made =
+            cond-yes _ _ (le-leb (b .held + length (callRecords b i mode)) (capacity n) (omega (arith, ap length (noted z)))) refl
+
+    pub follows-full : (cell ≡ 0 → ⊥) → capacity n ≤ b .held → r ≡ refused 8 b → Follows m r before before
+    unfolding changesTo
+    follows-full z h q =
+        follows-declined 8 b before
+        (cond-no _ _ (lt-leb (b .held + length (callRecords b i mode)) (capacity n) (omega (arith, ap length (noted z)))) refl ∙ e) q

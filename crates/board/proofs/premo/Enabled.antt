@@ -1,0 +1,175 @@
+-- What a refused call leaves, and the mode calls that act or are refused.
+use Prim.Native.Nat.{ℕ, _+_, zero-le}
+use mathlib.Core.Path.{_≡_, refl, sym, _∙_, ap}
+use mathlib.Core.Bool.{true}
+use mathlib.Core.Option.{Option, none, some}
+use native.Mathlib.Omega.{arith}
+use lib.Dec.{eqb, leb}
+use lib.IntN.{ℤ, pos}
+use lib.ListN.{length}
+use lib.Seq.{getD-set-same}
+use borrow.Author.Tests.{eqb-true, eq-eqb, le-leb}
+use Rattle.track.specs.declared.Track.{Track}
+use Rattle.track.specs.declared.grid.Decision.the-variants as decision
+use Rattle.track.specs.declared.number.Natural.the-variants as natural
+use Rattle.track.specs.declared.setup.Answer.{Answer}
+use Rattle.track.specs.declared.setup.Answer.the-variants as answer
+use Rattle.track.specs.Rule.{STOPPED, PLAYING, WAITING, stopped, entered}
+use Rattle.track.specs.Grid.{PLAY, PAUSE, RESUME, STOP, gridOf}
+use Rattle.track.specs.Number.{naturalOf}
+use Rattle.track.proofs.Tests.{cond-cases, cond-yes, cond-no}
+use Rattle.track.proofs.Numbers.{natural-of}
+use Rattle.board.specs.declared.Board.{Board}
+use Rattle.board.specs.declared.setup.Outcome.{Outcome}
+use Rattle.board.specs.Board.{trackAt, noTrack, isPresent, foundIn}
+use Rattle.board.specs.Setup.{setUp, addTrack, setPoint, dropPoint, clearBoard}
+use Rattle.board.proofs.rules.Broken.{present-small}
+use Rattle.board.proofs.setup.Keeping.{Whole, whole-test}
+use Rattle.board.proofs.setup.Ways.{set-up-refused, add-track-refused, set-point-refused, drop-point-refused, clear-refused}
+use Rattle.board.specs.Mode.{Ruling, callRecords, changing, changesTo, decided, modeRuling}
+use Rattle.board.specs.Log.{capacity}
+use Rattle.board.specs.declared.call.Call.{Call}
+use Rattle.board.specs.declared.call.Call.the-variants as call
+use Rattle.board.specs.Cut.{ticks, Part, run, one}
+use Rattle.board.specs.Replay.{World, wrote, w-halt, w-bar, w-step, perform}
+use Rattle.board.proofs.replay.Cuts.{advance-in, advance-out}
+use Rattle.board.specs.Call.{refused, answered, Stop, ends, fills, stoppedBy, untouched, madeOf, madeBy, saysOf, makesOf, gridstep, countOf, does, world}
+use Rattle.board.proofs.call.Machine.{counts}
+use Rattle.board.specs.premo.Automaton.{doRESUME, doSTOP, exc, offers}
+use Rattle.board.specs.premo.Acts.{modeOf, isNumber, isOn, deedOf, isRefusal, callActs, Brings}
+use Rattle.board.specs.premo.Published.{raises, Fits}
+use Rattle.board.proofs.premo.Calls.{ruling-cases, present-mode}
+
+-- ---- a refused call leaves board and log equal
+
+idle : (w : World Board) (b : Board) → b ≡ w .board → wrote gridstep (untouched b) w ≡ w
+idle w b e = ap (λ (c : Board). world c (w .log)) (counts .grown-zero b ∙ e)
+
+answered-refused : (a : Answer) {k : ℕ} → answered a ≡ refused k → a ≡ answer.Refused k
+answered-refused answer.Accepted e = cc
+answered-refused (answer.Refused n) e = cc
+
+outcome-idle : (w : World Board) (o : Outcome) (k : ℕ) → (o .answer ≡ answer.Refused k → o .board ≡ w .board)
+    → answered (o .answer) ≡ refused k → wrote gridstep (madeOf o) w ≡ w
+outcome-idle w o k f e = idle w (o .board) (f (answered-refused (o .answer) e))
+
+mode-idle : (w : World Board) (track : ℤ) (c k : ℕ) →
+    let m = modeRuling (w .board) (length (w .log)) track c in
+    answered (m .answer) ≡ refused k → wrote gridstep (madeBy m) w ≡ w
+mode-idle w track c k =
+    ruling-cases (w .board) (length (w .log)) track c (λ (m : Ruling). answered (m .answer) ≡ refused k → wrote gridstep (madeBy m) w ≡ w)
+    (λ _ _. idle w (w .board) refl) (λ j mode _ _ _ e. cc)
+
+call-idle : (c : Call) (w : World Board) (k : ℕ) → saysOf c (length (w .log)) (w .board) ≡ refused k
+    → wrote gridstep (makesOf c (length (w .log)) (w .board)) w ≡ w
+unfolding saysOf makesOf
+call-idle (call.AddTrack i lo hi) w k = outcome-idle w (addTrack (w .board) i lo hi) k (add-track-refused (w .board) i lo hi)
+call-idle (call.SetUp i c) w k = outcome-idle w (setUp (w .board) i c) k (set-up-refused (w .board) i c)
+call-idle (call.SetPoint i p e f c g) w k = outcome-idle w (setPoint (w .board) i p e f c g) k (set-point-refused (w .board) i p e f c g)
+call-idle (call.DropPoint i p) w k = outcome-idle w (dropPoint (w .board) i p) k (drop-point-refused (w .board) i p)
+call-idle (call.Play i) w k = mode-idle w i PLAY k
+call-idle (call.Pause i) w k = mode-idle w i PAUSE k
+call-idle (call.Resume i) w k = mode-idle w i RESUME k
+call-idle (call.Stop i) w k = mode-idle w i STOP k
+call-idle (call.Advance n) w k = λ e. idle w (w .board) refl
+call-idle call.Clear w k = outcome-idle w (clearBoard (w .board)) k (clear-refused (w .board))
+call-idle call.Clock w k = λ e. idle w (w .board) refl
+call-idle (call.Track i) w k = λ e. idle w (w .board) refl
+call-idle (call.Point i p) w k = λ e. idle w (w .board) refl
+call-idle (call.PointCount i from to) w k = λ e. idle w (w .board) refl
+
+never-refused : (t : ℕ) (o : Option Stop) {k : ℕ} → stoppedBy t o ≡ refused k → ⊥
+never-refused t none e = let z : _≡_ {A = ℕ} 0 1 = cc in omega arith
+never-refused t (some ends) e = let z : _≡_ {A = ℕ} 0 1 = cc in omega arith
+never-refused t (some fills) e = let z : _≡_ {A = ℕ} 0 1 = cc in omega arith
+
+pub refused-same : (p : Part Call) (w : World Board) (k : ℕ) → perform gridstep p w .answer ≡ refused k → perform gridstep p w .left ≡ w
+refused-same (one c) w k = call-idle c w k
+refused-same (run n) w k = go (w-bar gridstep w) refl
+  where
+    go : (o : Option ℕ) → w-bar gridstep w ≡ o → perform gridstep (run n) w .answer ≡ refused k → perform gridstep (run n) w .left ≡ w
+    go none e h =
+        let t = ticks (w-halt gridstep) (w-step gridstep) n w in
+        absurd (never-refused (t .taken) (t .why) (rw (advance-in (w-halt gridstep) (w-step gridstep) (w-bar gridstep) stoppedBy refused n w e) at h))
+    go (some x) e h = rw (advance-out (w-halt gridstep) (w-step gridstep) (w-bar gridstep) stoppedBy refused n w x e)
+
+-- ---- mode calls on a present track
+
+module _ (w : World Board) (whole : Whole (w .board)) (i : ℕ) (present : isPresent (w .board .present) i ≡ true) where
+  abbrev b : Board
+  b = w .board
+
+  abbrev n : ℕ
+  n = length (w .log)
+
+  abbrev t : Track
+  t = trackAt (w .board .tracks) i
+
+  abbrev ruling : ℕ → Ruling
+  ruling c = modeRuling (w .board) (length (w .log)) (pos i) c
+
+  number : naturalOf (pos i) 0 15 ≡ natural.In i
+  number = natural-of i 0 15 zero-le (omega (arith, present-small (b .present) i present))
+
+  on : isNumber i (pos i) ≡ true
+  on = rw number (eq-eqb i i refl)
+
+  found : foundIn (b .present) (pos i) ≡ natural.In i
+  unfolding foundIn
+  found = rw (number, present)
+
+  -- what the grid lets act is accepted, if its record fits
+  goes : (c m : ℕ) → gridOf (t .mode) c ≡ decision.Goes m → Fits i m w → ruling c ≡ changing b i m
+  unfolding modeRuling decided changesTo
+  goes c m g fits = rw (whole-test b whole, le-leb (b .held) (capacity n) (omega arith), found, g, le-leb _ (capacity n) fits)
+
+  -- and is not refused 2, whether it fits or not
+  not-2 : (c m : ℕ) → gridOf (t .mode) c ≡ decision.Goes m → answered (ruling c .answer) ≡ refused 2 → ⊥
+  unfolding modeRuling decided changesTo
+  not-2 c m g =
+      rw (whole-test b whole, found, g)
+      (cond-cases Not2 (leb (b .held) (capacity n))
+      (λ _. cond-cases Not2 (leb (b .held + length (callRecords b i m)) (capacity n))
+      (λ _ e. let z : _≡_ {A = ℕ} 0 1 = cc in omega arith) (λ _ e. let z : _≡_ {A = ℕ} 8 2 = cc in omega arith))
+      (λ _ e. let z : _≡_ {A = ℕ} 7 2 = cc in omega arith))
+    where
+      Not2 : Ruling → Type 0
+      Not2 r = answered (r .answer) ≡ refused 2 → ⊥
+
+  -- what the grid does not let act is refused
+  refuses : (c : ℕ) → gridOf (t .mode) c ≡ decision.Refused
+      → (isRefusal (answered (ruling c .answer)) ≡ true) × (wrote gridstep (madeBy (ruling c)) w ≡ w)
+  refuses c g =
+      ruling-cases b n (pos i) c (λ (m : Ruling). (isRefusal (answered (m .answer)) ≡ true) × (wrote gridstep (madeBy m) w ≡ w))
+      (λ _. (refl, idle w b refl)) (λ j mode e _ h. absurd (let z : _≡_ {A = ℕ} 0 1 = cc number in omega arith))
+
+  -- in every mode a mode call is refused, and leaves all equal
+  pub raised : Brings i (raises i (modeOf b i)) exc w × (does (raises i (modeOf b i)) w .left ≡ w)
+  unfolding gridOf countOf callActs saysOf makesOf isOn deedOf
+  raised =
+      cond-cases (λ (c : Call). Brings i c exc w × (does c w .left ≡ w)) (eqb (modeOf b i) STOPPED)
+      (λ e. let r = refuses RESUME (rw (present-mode b i present ∙ eqb-true (modeOf b i) STOPPED e)) in (rw (on, r .0), r .1))
+      (λ e. let r = refuses PLAY (sym (cond-no _ _ (ap (λ (m : ℕ). eqb m STOPPED) (present-mode b i present) ∙ e) refl)) in (rw (on, r .0), r .1))
+
+  -- a resume acts where it is offered
+  pub resumes : offers (t .mode) doRESUME ≡ true →
+      (does (call.Resume (pos i)) w .answer ≡ refused 2 → ⊥) × (Fits i PLAYING w → Brings i (call.Resume (pos i)) doRESUME w)
+  unfolding gridOf offers countOf callActs saysOf isOn deedOf
+  resumes o =
+      let g : gridOf (t .mode) RESUME ≡ decision.Goes PLAYING = sym (cond-yes _ _ o refl) in
+      (not-2 RESUME PLAYING g, λ fits. rw (on, goes RESUME PLAYING g fits))
+
+  -- a stop acts in every mode
+  pub stops :
+      (does (call.Stop (pos i)) w .answer ≡ refused 2 → ⊥)
+      × (Fits i STOPPED w → Brings i (call.Stop (pos i)) doSTOP w × (trackAt (does (call.Stop (pos i)) w .left .board .tracks) i ≡ stopped t))
+  unfolding gridOf entered countOf callActs saysOf makesOf isOn deedOf
+  stops =
+      let valid = whole .unbroken .tracks i present .valid in
+      let g : gridOf (t .mode) STOP ≡ decision.Goes STOPPED = sym (cond-yes _ _ (le-leb (t .mode) WAITING (valid .mode)) refl) in
+      let l = present-small (b .present) i present in (
+        not-2 STOP STOPPED g,
+        λ fits.
+            let e = goes STOP STOPPED g fits in
+            (rw (on, e), rw e (getD-set-same (b .tracks) i (stopped t) noTrack (omega (arith, whole .shaped .tracks)))),
+      )

@@ -1,0 +1,5 @@
+pub mod Reaching
+pub mod Players
+pub mod Leaps
+pub mod Stretches
+pub mod Turns

@@ -1,0 +1,3 @@
+pub mod Broken
+pub mod Present
+pub mod Passing

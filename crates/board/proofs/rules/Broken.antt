@@ -1,0 +1,193 @@
+-- What makes a board broken: the tests and the rules say the same.
+use Prim.Native.Nat.{ℕ, zero, suc, _/_, _%_, _^_, _≤_, _<_, suc-le-suc}
+use mathlib.Core.Path.{_≡_, refl, sym, _∙_, ap}
+use mathlib.Core.Bool.{Bool, true, false, cond, not, _&&_, _||_}
+use mathlib.Core.List.{List, [], _∷_}
+use native.Mathlib.Nat.{le-of-suc-le-suc, not-suc-le-zero, zero-lt-suc, pow-suc, div-div-eq-div-mul, mul-comm}
+use native.Mathlib.Omega.{arith}
+use lib.Dec.{leb, ltb, eqb}
+use lib.ListN.{length, getD, take}
+use lib.Seq.{length-take-le, getD-take}
+use borrow.Author.Tests.{eqb-true, ltb-true, leb-true, lt-ltb, le-ltb, le-leb, eq-eqb}
+use Rattle.track.specs.declared.Track.{Track}
+use Rattle.track.specs.declared.Ticks.{Ticks}
+use Rattle.track.specs.Rule.{clockEnd, Sound, soundTest}
+use Rattle.track.proofs.Tests.{both, both-is}
+use Rattle.track.proofs.Checks.{sound-of, sound-is}
+use Rattle.board.specs.declared.Board.{Board}
+use Rattle.board.specs.declared.points.Point.{Point}
+use Rattle.board.specs.Points.{pointMost, ascendingFrom, pointOf}
+use Rattle.board.specs.Board.{trackCount, eventMost, trackAt, isPresent, PointRule, Unbroken, tracksTest, placeTest, deedTest, pointsTest, unbrokenParts, unbrokenTest}
+
+-- ---- presence
+
+pub present-not : (word i : ℕ) → trackCount ≤ i → false ≡ isPresent word i
+unfolding isPresent
+present-not word i h = simp (le-ltb i trackCount h)
+
+pub present-bit : (word i : ℕ) → i < trackCount → eqb (word / 2 ^ i % 2) 1 ≡ isPresent word i
+unfolding isPresent
+present-bit word i h = simp (lt-ltb i trackCount h)
+
+-- a present track has a number below 16
+pub present-small : (word i : ℕ) → isPresent word i ≡ true → i < trackCount
+unfolding isPresent
+present-small word i h = ltb-true _ _ (both (ltb i trackCount) (eqb (word / 2 ^ i % 2) 1) h .0)
+
+pub present-set : (word i : ℕ) → isPresent word i ≡ true → word / 2 ^ i % 2 ≡ 1
+unfolding isPresent
+present-set word i h = eqb-true _ _ (both (ltb i trackCount) (eqb (word / 2 ^ i % 2) 1) h .1)
+
+-- ---- the tracks
+
+-- bit i + 1 of a word is bit i of its half
+pub half-bit : (word i : ℕ) → word / 2 / 2 ^ i ≡ word / 2 ^ suc i
+half-bit word i = div-div-eq-div-mul word 2 (2 ^ i) ∙ ap (λ (m : ℕ). word / m) (mul-comm 2 (2 ^ i) ∙ sym (pow-suc 2 i))
+
+-- the tracks that the word says are present are sound, where the test holds
+pub tracks-at : (ts : List Track) (word : ℕ) (clock : Ticks) → tracksTest word ts clock ≡ true →
+    (i : ℕ) → i < length ts → word / 2 ^ i % 2 ≡ 1 → Sound (trackAt ts i) clock
+unfolding tracksTest
+tracks-at [] word clock h i l e = absurd (not-suc-le-zero l)
+tracks-at (t ∷ ts) word clock h zero l e =
+    let b = both (not (eqb (word % 2) 1) || soundTest t clock) (tracksTest (word / 2) ts clock) h in
+    let w : word % 2 ≡ 1 = omega arith in
+    sound-of t (simp (eq-eqb (word % 2) 1 w) at (b .0))
+tracks-at (t ∷ ts) word clock h (suc i) l e =
+    let b = both (not (eqb (word % 2) 1) || soundTest t clock) (tracksTest (word / 2) ts clock) h in
+    tracks-at ts (word / 2) clock (b .1) i (le-of-suc-le-suc l) (ap (λ (m : ℕ). m % 2) (half-bit word i) ∙ e)
+
+-- and the test holds where they are
+pub tracks-are : (ts : List Track) (word : ℕ) (clock : Ticks) →
+    ((i : ℕ) → i < length ts → word / 2 ^ i % 2 ≡ 1 → Sound (trackAt ts i) clock) → tracksTest word ts clock ≡ true
+unfolding tracksTest
+tracks-are [] word clock h = refl
+tracks-are (t ∷ ts) word clock h =
+    both-is (first (eqb (word % 2) 1) refl)
+    (tracks-are ts (word / 2) clock (λ i l e. h (suc i) (suc-le-suc l) (ap (λ (m : ℕ). m % 2) (sym (half-bit word i)) ∙ e)))
+  where
+    first : (b : Bool) → eqb (word % 2) 1 ≡ b → (not b || soundTest t clock) ≡ true
+    first true e = sym (sound-is t (h zero (zero-lt-suc (length ts)) (let w = eqb-true (word % 2) 1 e in omega arith)))
+    first false e = refl
+
+-- ---- the points
+
+module _ (present : ℕ) (ts : List Track) (p : Point) where
+  owner : Track
+  owner = trackAt ts (p .track)
+
+  target : Bool
+  target = cond (eqb (p .command) 0) (eqb (p .target) 0) (isPresent present (p .target))
+
+  pub point-of : placeTest present (trackAt ts (p .track)) p ≡ true → deedTest present p ≡ true → PointRule present ts p
+  unfolding placeTest deedTest owner target
+  point-of h k =
+      let a = both (isPresent present (p .track)) (leb (owner .min .0) (p .position .0) && leb (p .position .0) (owner .max .0)) h in
+      let b = both (leb (owner .min .0) (p .position .0)) (leb (p .position .0) (owner .max .0)) (a .1) in
+      let e = both (leb 1 (p .event)) (leb (p .event) eventMost && (leb (p .command) 4 && target)) k in
+      let f = both (leb (p .event) eventMost) (leb (p .command) 4 && target) (e .1) in
+      let g = both (leb (p .command) 4) target (f .1) in
+      record {
+        track = a .0;
+        low = leb-true _ _ (b .0);
+        high = leb-true _ _ (b .1);
+        event = (leb-true _ _ (e .0), leb-true _ _ (f .0));
+        command = leb-true _ _ (g .0);
+        target = g .1;
+      }
+
+  point-is : PointRule present ts p → (placeTest present (trackAt ts (p .track)) p ≡ true) × (deedTest present p ≡ true)
+  unfolding placeTest deedTest
+  point-is r = (
+    both-is (r .track) (both-is (le-leb _ _ (r .low)) (le-leb _ _ (r .high))),
+    both-is (le-leb _ _ (r .event .0)) (both-is (le-leb _ _ (r .event .1)) (both-is (le-leb _ _ (r .command)) (r .target))),
+  )
+
+module _ (present : ℕ) (ts : List Track) where
+  -- every entry of two rows keeps the rules of a point
+  abbrev pub Entries : List ℕ → List ℕ → Type 0
+  Entries ks ds = (j : ℕ) → j < length ks → PointRule present ts (pointOf (getD ks j 0) (getD ds j 0))
+
+  points-of : (lo : ℕ) (ks ds : List ℕ) → length ks ≤ length ds → pointsTest present ts lo ks ds ≡ true →
+      (ascendingFrom lo ks ≡ true) × Entries ks ds
+  unfolding pointsTest ascendingFrom
+  points-of lo [] ds l h = (refl, λ j m. absurd (not-suc-le-zero m))
+  points-of lo (k ∷ ks) [] l h = absurd (not-suc-le-zero l)
+  points-of lo (k ∷ ks) (d ∷ ds) l h =
+      let p = pointOf k d in
+      let place = placeTest present (trackAt ts (p .track)) p in
+      let rest = pointsTest present ts (suc k) ks ds in
+      let a = both (leb lo k) (place && (deedTest present p && rest)) h in
+      let b = both place (deedTest present p && rest) (a .1) in
+      let c = both (deedTest present p) rest (b .1) in
+      let r = points-of (suc k) ks ds (le-of-suc-le-suc l) (c .1) in
+      (both-is (a .0) (r .0), at (point-of present ts p (b .0) (c .0)) (r .1))
+    where
+      at : PointRule present ts (pointOf k d) → Entries ks ds → Entries (k ∷ ks) (d ∷ ds)
+      at here there zero m = here
+      at here there (suc j) m = there j (le-of-suc-le-suc m)
+
+  points-are : (lo : ℕ) (ks ds : List ℕ) → ascendingFrom lo ks ≡ true → Entries ks ds → pointsTest present ts lo ks ds ≡ true
+  unfolding pointsTest ascendingFrom
+  points-are lo [] ds a e = refl
+  points-are lo (k ∷ ks) [] a e = refl
+  points-are lo (k ∷ ks) (d ∷ ds) a e =
+      let b = both (leb lo k) (ascendingFrom (suc k) ks) a in
+      let p = point-is present ts (pointOf k d) (e zero (zero-lt-suc (length ks))) in
+      both-is (b .0) (both-is (p .0) (both-is (p .1) (points-are (suc k) ks ds (b .1) (λ j m. e (suc j) (suc-le-suc m)))))
+
+-- ---- the board
+
+-- the rows and the tracks are as long as their types say
+pub record Shaped (b : Board) : Type 0 where
+  pub tracks : length (b .tracks) ≡ trackCount
+  pub keys : length (b .points .keys) ≡ pointMost
+  pub infos : length (b .points .infos) ≡ pointMost
+
+module _ (b : Board) (s : Shaped b) where
+  -- a board that passes the test keeps the rules
+  pub unbroken-of : unbrokenTest b ≡ true → Unbroken b
+  unfolding unbrokenParts
+  unbroken-of h =
+      let n = b .points .count in
+      let ks = take n (b .points .keys) in
+      let ds = take n (b .points .infos) in
+      let tests = pointsTest (b .present) (b .tracks) 0 ks ds in
+      let p = both (leb (b .clock .0) clockEnd) (leb n pointMost && (tracksTest (b .present) (b .tracks) (b .clock) && tests)) h in
+      let q = both (leb n pointMost) (tracksTest (b .present) (b .tracks) (b .clock) && tests) (p .1) in
+      let r = both (tracksTest (b .present) (b .tracks) (b .clock)) tests (q .1) in
+      let m : n ≤ pointMost = leb-true _ _ (q .0) in
+      let lk : length ks ≡ n = length-take-le n (b .points .keys) (omega (arith, s .keys)) in
+      let ld : length ds ≡ n = length-take-le n (b .points .infos) (omega (arith, s .infos)) in
+      let e = points-of (b .present) (b .tracks) 0 ks ds (omega arith) (r .1) in
+      record {
+        clock = leb-true _ _ (p .0);
+        tracks = λ i h. tracks-at (b .tracks) (b .present) (b .clock) (r .0) i
+            (let l = present-small (b .present) i h in omega (arith, s .tracks)) (present-set (b .present) i h);
+        count = m;
+        order = e .0;
+        points = λ j l.
+            let x = getD-take n (b .points .keys) j 0 l in
+            let y = getD-take n (b .points .infos) j 0 l in
+            rw (x, y) at (e .1 j (omega (arith, lk)));
+      }
+
+  -- and a board that keeps them passes it
+  pub unbroken-is : Unbroken b → unbrokenTest b ≡ true
+  unfolding unbrokenParts
+  unbroken-is u =
+      let n = b .points .count in
+      let ks = take n (b .points .keys) in
+      let ds = take n (b .points .infos) in
+      let lk : length ks ≡ n = length-take-le n (b .points .keys) (omega (arith, s .keys, u .count)) in
+      both-is (le-leb _ _ (u .clock))
+      (both-is (le-leb _ _ (u .count))
+      (both-is
+      (tracks-are (b .tracks) (b .present) (b .clock)
+      (λ i l e. u .tracks i (sym (present-bit (b .present) i (omega (arith, s .tracks))) ∙ eq-eqb _ _ e)))
+      (points-are (b .present) (b .tracks) 0 ks ds (u .order)
+      (λ j l.
+      let m : j < n = omega (arith, lk) in
+      let x = getD-take n (b .points .keys) j 0 m in
+      let y = getD-take n (b .points .infos) j 0 m in
+      rw (x, y) (u .points j m)))))

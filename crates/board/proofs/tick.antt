@@ -1,0 +1,6 @@
+pub mod Stirring
+pub mod PlayingLaws
+pub mod Staging
+pub mod Commands
+pub mod Steps
+pub mod Bits

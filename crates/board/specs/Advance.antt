@@ -1,0 +1,41 @@
+-- How an advance ends, and the turns that the tick loop can still take.
+use Prim.Native.Nat.{ℕ, _+_, _-_, _*_, min}
+use mathlib.Core.Bool.{cond, Bool}
+use mathlib.Core.Path.{_≡_}
+use mathlib.Core.List.{List}
+use lib.ListN.{length}
+use Rattle.track.specs.Rule.{clockEnd}
+use Rattle.board.specs.declared.Board.{Board}
+use Rattle.board.specs.declared.advance.Left.{Left}
+use Rattle.board.specs.Tick.{members, playingWord}
+use Rattle.board.specs.Cut.{Ran, ticks}
+use Rattle.board.specs.Replay.{World, w-halt, w-step}
+use Rattle.board.specs.Call.{Stop, stoppedBy, advancedSaid, gridstep}
+
+-- the board that ticks left off at
+abbrev pub boardLeft : Board → Left → Board
+boardLeft b r =
+    record { tracks = r .tracks; present = b .present; points = b .points; clock = r .clock; held = r .held }
+
+-- an advance has ended as ticks come to
+pub record Ended (b : Board) (t : Ran Stop (World Board)) (r : Left) (log : List ℕ) : Type 0 where
+  pub answer-is : advancedSaid (r .answer) ≡ stoppedBy (t .taken) (t .why)
+  pub board-is : boardLeft b r ≡ t .end .board
+  pub log-is : log ≡ t .end .log
+
+-- ---- How many turns the tick loop can still take (01, "Advance": empty stretches are leapt): told by what is still to be written, not by
+-- the ticks still to be taken.
+
+-- the number of tracks that play
+abbrev pub playingCount : Board → ℕ
+playingCount b = length (members (playingWord (b .present) (b .tracks)))
+
+-- the records that so many ticks write
+abbrev pub written : ℕ → World Board → ℕ
+written left u = ticks (w-halt gridstep) (w-step gridstep) left u .end .board .held - u .board .held
+
+-- The measure of the loop `'ticks` of `run` (src/advance.rt), with `left` ticks to do on u, where `look` says whether the next turn
+-- looks for a leap: three for each record still to be written, one for each track that plays, one if the next turn doesn't look, one
+-- if a tick can still be taken.
+abbrev pub turnsLeft : Bool → ℕ → World Board → ℕ
+turnsLeft look left u = 3 * written left u + playingCount (u .board) + cond look 0 1 + min 1 (min left (clockEnd - u .board .clock .0))

@@ -1,0 +1,135 @@
+-- A board's state, and the ranges and rules that 01 gives for its tracks, points and clock.
+use Prim.Native.Nat.{ℕ, suc, _/_, _%_, _^_, _≤_, _<_}
+use mathlib.Core.Path.{_≡_}
+use mathlib.Core.List.{List, [], _∷_}
+use mathlib.Core.Bool.{Bool, true, cond, not, _&&_, _||_}
+use lib.ListN.{getD, replicate, take}
+use lib.Dec.{leb, ltb, eqb}
+use Rattle.track.specs.declared.Track.{Track}
+use Rattle.track.specs.declared.Ticks.{Ticks}
+use Rattle.track.specs.Rule.{clockEnd, Sound, soundTest, newTrack}
+use Rattle.board.specs.declared.Board.{Board}
+use Rattle.board.specs.declared.points.Points.{Points}
+use Rattle.board.specs.declared.points.Point.{Point}
+use Rattle.board.specs.Points.{pointMost, ascendingFrom, keysOf, pointOf, noPoints}
+use lib.IntN.{ℤ}
+use Rattle.track.specs.declared.number.Natural.{Natural}
+use Rattle.track.specs.declared.number.Natural.the-variants as natural
+use Rattle.track.specs.Number.{naturalOf, onNatural}
+
+abbrev pub trackCount : ℕ
+trackCount = 16
+
+-- an event 1 to 255
+abbrev pub eventMost : ℕ
+eventMost = 255
+
+-- what is read where there is no track
+abbrev pub noTrack : Track
+noTrack =
+    record {
+      min = record { 0 = 0 };
+      max = record { 0 = 0 };
+      start = record { 0 = 0 };
+      end = record { 0 = 0 };
+      position = record { 0 = 0 };
+      passes = record { 0 = 0 };
+      loops = 0;
+      mode = 0;
+      direction = 0;
+      repeat = 0;
+      due = 0;
+      actions = [];
+    }
+
+abbrev pub trackAt : List Track → ℕ → Track
+trackAt ts i = getD ts i noTrack
+
+-- tracks 0 to 15, each present or not: bit i of the word says it of track i
+unfoldable pub isPresent : ℕ → ℕ → Bool
+isPresent word i = ltb i trackCount && eqb (word / 2 ^ i % 2) 1
+
+-- A point has a position from min to max of its track, an event 1 to 255, a wait flag 0 or 1, a command 0 to 4 and a target
+-- 0 to 15. With a command the target must exist; with command 0 it is the number 0, and track 0 need not exist.
+pub record PointRule (present : ℕ) (ts : List Track) (p : Point) : Type 0 where
+  pub track : isPresent present (p .track) ≡ true
+  pub low : trackAt ts (p .track) .min .0 ≤ p .position .0
+  pub high : p .position .0 ≤ trackAt ts (p .track) .max .0
+  pub event : (1 ≤ p .event) × (p .event ≤ eventMost)
+  pub command : p .command ≤ 4
+  pub target : cond (eqb (p .command) 0) (eqb (p .target) 0) (isPresent present (p .target)) ≡ true
+
+-- the point at index j
+abbrev pub pointAt : Points → ℕ → Point
+pointAt t j = pointOf (getD (t .keys) j 0) (getD (t .infos) j 0)
+
+-- A board that keeps every range and rule given for tracks, points and clock, and no more: absent tracks and what stands past
+-- the points' count are no part of it, and held has no rule.
+pub record Unbroken (b : Board) : Type 0 where
+  pub clock : b .clock .0 ≤ clockEnd
+  pub tracks : (i : ℕ) → isPresent (b .present) i ≡ true → Sound (trackAt (b .tracks) i) (b .clock)
+  pub count : b .points .count ≤ pointMost
+  pub order : ascendingFrom 0 (keysOf (b .points)) ≡ true
+  pub points : (j : ℕ) → j < b .points .count → PointRule (b .present) (b .tracks) (pointAt (b .points) j)
+
+-- ---- the same as a test
+
+-- the tracks that the word says are present, the first being its lowest bit
+unfoldable pub tracksTest : ℕ → List Track → Ticks → Bool
+tracksTest word [] clock = true
+tracksTest word (t ∷ ts) clock = (not (eqb (word % 2) 1) || soundTest t clock) && tracksTest (word / 2) ts clock
+
+unfoldable pub placeTest : ℕ → Track → Point → Bool
+placeTest present owner p =
+    isPresent present (p .track) && (leb (owner .min .0) (p .position .0) && leb (p .position .0) (owner .max .0))
+
+unfoldable pub deedTest : ℕ → Point → Bool
+deedTest present p =
+    leb 1 (p .event)
+    && (leb (p .event) eventMost
+    && (leb (p .command) 4 && cond (eqb (p .command) 0) (eqb (p .target) 0) (isPresent present (p .target))))
+
+-- the points of two rows, every key at least lo
+unfoldable pub pointsTest : ℕ → List Track → ℕ → List ℕ → List ℕ → Bool
+pointsTest present ts lo [] ds = true
+pointsTest present ts lo (k ∷ ks) [] = true
+pointsTest present ts lo (k ∷ ks) (d ∷ ds) =
+    leb lo k
+    && (placeTest present (trackAt ts (pointOf k d .track)) (pointOf k d)
+    && (deedTest present (pointOf k d) && pointsTest present ts (suc k) ks ds))
+
+-- a board by its parts: the present word, tracks, clock, keys, infos and the points' count
+unfoldable pub unbrokenParts : ℕ → List Track → Ticks → List ℕ → List ℕ → ℕ → Bool
+unbrokenParts present ts clock keys infos n =
+    leb (clock .0) clockEnd
+    && (leb n pointMost && (tracksTest present ts clock && pointsTest present ts 0 (take n keys) (take n infos)))
+
+abbrev pub unbrokenTest : Board → Bool
+unbrokenTest b =
+    unbrokenParts (b .present) (b .tracks) (b .clock) (b .points .keys) (b .points .infos) (b .points .count)
+
+-- Fresh: no track, no point, clock 0, held 0.
+unfoldable pub freshBoard : Board
+freshBoard =
+    record {
+      tracks = replicate trackCount (newTrack (record { 0 = 0 }) (record { 0 = 0 }));
+      present = 0;
+      points = noPoints;
+      clock = record { 0 = 0 };
+      held = 0;
+    }
+
+-- 1 number not 0 to 15, or track absent
+unfoldable pub foundIn : ℕ → ℤ → Natural
+foundIn present track = onNatural (naturalOf track 0 15) (λ i. cond (isPresent present i) (natural.In i) natural.Outside) natural.Outside
+
+-- a board of its parts
+abbrev pub boardOf : List Track → ℕ → List ℕ → List ℕ → ℕ → ℕ → ℕ → Board
+boardOf tracks present keys infos count clock held =
+    record {
+      tracks = tracks;
+      present = present;
+      points = record { keys = keys; infos = infos; count = count };
+      clock = record { 0 = clock };
+      held = held;
+    }

@@ -1,0 +1,268 @@
+-- What every call does with a board and a log: the answers by 01's numbers, and the board as a machine of lists of calls.
+use Prim.Native.Nat.{ℕ, _+_}
+use mathlib.Core.Bool.{cond}
+use mathlib.Core.Path.{_≡_}
+use mathlib.Core.List.{List, []}
+use mathlib.Core.Option.{Option, none, some}
+use lib.ListN.{length}
+use lib.IntN.{pos}
+use lib.Dec.{leb}
+use Rattle.track.specs.declared.Track.{Track}
+use Rattle.track.specs.declared.Ticks.{Ticks}
+use Rattle.track.specs.declared.setup.Answer.{Answer}
+use Rattle.track.specs.declared.setup.Answer.the-variants as answer
+use Rattle.track.specs.declared.number.Natural.{Natural}
+use Rattle.track.specs.declared.number.Natural.the-variants as natural
+use Rattle.track.specs.Rule.{clockEnd}
+use Rattle.track.specs.Grid.{PLAY, PAUSE, RESUME, STOP}
+use Rattle.track.specs.Number.{naturalOf}
+use Rattle.board.specs.declared.Board.{Board}
+use Rattle.board.specs.declared.log.Record.{Record}
+use Rattle.board.specs.declared.points.Point.{Point}
+use Rattle.board.specs.declared.setup.Outcome.{Outcome}
+use Rattle.board.specs.declared.query.ClockRead.{ClockRead}
+use Rattle.board.specs.declared.query.ClockRead.the-variants as clock
+use Rattle.board.specs.declared.query.PointRead.{PointRead}
+use Rattle.board.specs.declared.query.PointRead.the-variants as point
+use Rattle.board.specs.declared.query.CountRead.{CountRead}
+use Rattle.board.specs.declared.query.CountRead.the-variants as count
+use Rattle.board.specs.declared.call.Advanced.{Advanced}
+use Rattle.board.specs.declared.call.Advanced.the-variants as advanced
+use Rattle.board.specs.declared.call.Call.{Call}
+use Rattle.board.specs.declared.call.Call.the-variants as call
+use Rattle.board.specs.Log.{recordWidth, recordBytes, capacity}
+use Rattle.board.specs.Board.{unbrokenTest}
+use Rattle.board.specs.Setup.{boardWith, setUp, addTrack, setPoint, dropPoint, clearBoard}
+use Rattle.board.specs.Query.{clockOf, trackOf, pointIn, countIn}
+use Rattle.board.specs.Tick.{tickOf}
+use Rattle.board.specs.Mode.{Ruling, modeRuling}
+use Rattle.board.specs.Cut.{Did, part}
+use Rattle.board.specs.Replay.{Made, Rules, World, perform}
+use Rattle.board.specs.declared.call.Told.{Told}
+use Rattle.board.specs.declared.call.Told.the-variants as told
+
+-- An answer, by this paper's numbers and values: accepted, a refusal's number, an advance's reason with the ticks taken, or
+-- what was asked.
+pub data Reply : Type 0 where
+  accepted : Reply
+  refused : ℕ → Reply
+  done : ℕ → Reply
+  logFull : ℕ → Reply
+  clockEnded : ℕ → Reply
+  clockIs : Ticks → ℕ → Reply
+  trackIs : Track → Reply
+  pointIs : Point → Reply
+  countIs : ℕ → Reply
+
+abbrev pub answered : Answer → Reply
+answered answer.Accepted = accepted
+answered (answer.Refused n) = refused n
+
+abbrev pub clockSaid : ClockRead → Reply
+clockSaid (clock.Clock c held) = clockIs c held
+clockSaid (clock.Refused n) = refused n
+
+abbrev pub trackSaid : Answer → Track → Reply
+trackSaid answer.Accepted t = trackIs t
+trackSaid (answer.Refused n) t = refused n
+
+abbrev pub pointSaid : PointRead → Reply
+pointSaid (point.Found p) = pointIs p
+pointSaid (point.Refused n) = refused n
+
+abbrev pub countSaid : CountRead → Reply
+countSaid (count.Count n) = countIs n
+countSaid (count.Refused n) = refused n
+
+-- What stops an advance: the clock's end, or records that don't fit. No refusal is one of them.
+pub data Stop : Type 0 where
+  ends : Stop
+  fills : Stop
+
+abbrev pub stoppedBy : ℕ → Option Stop → Reply
+stoppedBy taken none = done taken
+stoppedBy taken (some ends) = clockEnded taken
+stoppedBy taken (some fills) = logFull taken
+
+-- What stopped an advance, or refused it: the two are kept apart.
+pub data Reason : Type 0 where
+  stopped : Stop → Reason
+  refusedWith : ℕ → Reason
+
+-- the ticks taken that an answer to an advance carries, a refusal counting 0
+abbrev pub takenIn : Reply → ℕ
+takenIn accepted = 0
+takenIn (refused n) = 0
+takenIn (done n) = n
+takenIn (logFull n) = n
+takenIn (clockEnded n) = n
+takenIn (clockIs c held) = 0
+takenIn (trackIs t) = 0
+takenIn (pointIs p) = 0
+takenIn (countIs n) = 0
+
+-- the reason that it carries, if it isn't Done
+abbrev pub whyNot : Reply → Option Reason
+whyNot accepted = none
+whyNot (refused n) = some (refusedWith n)
+whyNot (done n) = none
+whyNot (logFull n) = some (stopped fills)
+whyNot (clockEnded n) = some (stopped ends)
+whyNot (clockIs c held) = none
+whyNot (trackIs t) = none
+whyNot (pointIs p) = none
+whyNot (countIs n) = none
+
+abbrev pub advancedSaid : Advanced → Reply
+advancedSaid (advanced.Done n) = done (n .0)
+advancedSaid (advanced.LogFull n) = logFull (n .0)
+advancedSaid (advanced.ClockEnd n) = clockEnded (n .0)
+advancedSaid (advanced.Refused n) = refused n
+
+-- ---- the board's rules, for any log of n bytes
+
+abbrev pub grownBy : Board → ℕ → Board
+grownBy b k = boardWith b (b .tracks) (b .present) (b .points) (b .held + k)
+
+-- the board after a tick, its records not yet counted
+abbrev pub ticked : Board → Board
+ticked b =
+    record {
+      tracks = tickOf b .tracks;
+      present = b .present;
+      points = b .points;
+      clock = record { 0 = b .clock .0 + 1 };
+      held = b .held;
+    }
+
+-- before a tick: the clock is 1,000,000,000 or, failing that, its records don't fit
+unfoldable pub haltOf : ℕ → Board → Option Stop
+haltOf n b =
+    cond (leb clockEnd (b .clock .0)) (some ends)
+    (cond (leb (b .held + length (tickOf b .records)) (capacity n)) none (some fills))
+
+-- an advance is refused 3 for a broken board, then 7
+unfoldable pub barOf : ℕ → Board → Option ℕ
+barOf n b = cond (unbrokenTest b) (cond (leb (b .held) (capacity n)) none (some 7)) (some 3)
+
+-- an advance with another count than 0 to 4,294,967,295: 3, after those
+abbrev pub barred : Option ℕ → Reply
+barred none = refused 3
+barred (some k) = refused k
+
+abbrev pub madeOf : Outcome → Made Board Record
+madeOf o = record { board = o .board; records = [] }
+
+abbrev pub madeBy : Ruling → Made Board Record
+madeBy m = record { board = m .board; records = m .records }
+
+abbrev pub untouched : Board → Made Board Record
+untouched b = record { board = b; records = [] }
+
+unfoldable pub saysOf : Call → ℕ → Board → Reply
+saysOf (call.AddTrack i lo hi) n b = answered (addTrack b i lo hi .answer)
+saysOf (call.SetUp i c) n b = answered (setUp b i c .answer)
+saysOf (call.SetPoint i p e w c g) n b = answered (setPoint b i p e w c g .answer)
+saysOf (call.DropPoint i p) n b = answered (dropPoint b i p .answer)
+saysOf (call.Play i) n b = answered (modeRuling b n i PLAY .answer)
+saysOf (call.Pause i) n b = answered (modeRuling b n i PAUSE .answer)
+saysOf (call.Resume i) n b = answered (modeRuling b n i RESUME .answer)
+saysOf (call.Stop i) n b = answered (modeRuling b n i STOP .answer)
+saysOf (call.Advance k) n b = barred (barOf n b)
+saysOf call.Clear n b = answered (clearBoard b .answer)
+saysOf call.Clock n b = clockSaid (clockOf b)
+saysOf (call.Track i) n b = trackSaid (trackOf b i .answer) (trackOf b i .track)
+saysOf (call.Point i p) n b = pointSaid (pointIn b i p)
+saysOf (call.PointCount i from to) n b = countSaid (countIn b i from to)
+
+unfoldable pub makesOf : Call → ℕ → Board → Made Board Record
+makesOf (call.AddTrack i lo hi) n b = madeOf (addTrack b i lo hi)
+makesOf (call.SetUp i c) n b = madeOf (setUp b i c)
+makesOf (call.SetPoint i p e w c g) n b = madeOf (setPoint b i p e w c g)
+makesOf (call.DropPoint i p) n b = madeOf (dropPoint b i p)
+makesOf (call.Play i) n b = madeBy (modeRuling b n i PLAY)
+makesOf (call.Pause i) n b = madeBy (modeRuling b n i PAUSE)
+makesOf (call.Resume i) n b = madeBy (modeRuling b n i RESUME)
+makesOf (call.Stop i) n b = madeBy (modeRuling b n i STOP)
+makesOf (call.Advance k) n b = untouched b
+makesOf call.Clear n b = madeOf (clearBoard b)
+makesOf call.Clock n b = untouched b
+makesOf (call.Track i) n b = untouched b
+makesOf (call.Point i p) n b = untouched b
+makesOf (call.PointCount i from to) n b = untouched b
+
+abbrev pub gridstep : Rules
+gridstep =
+    record {
+      Board = Board;
+      Rec = Record;
+      Call = Call;
+      Answer = Reply;
+      Stop = Stop;
+      held = λ b. b .held;
+      grown = grownBy;
+      width = recordWidth;
+      bytes = recordBytes;
+      tick = λ b. record { board = ticked b; records = tickOf b .records };
+      halt = haltOf;
+      bar = barOf;
+      says = saysOf;
+      makes = makesOf;
+      done = stoppedBy;
+      refuse = refused;
+    }
+
+-- ---- a call
+
+-- the count of an advance that belongs to a run: 0 to 4,294,967,295
+abbrev pub most : ℕ
+most = 4294967295
+
+abbrev pub taken? : Natural → Option ℕ
+taken? (natural.In k) = some k
+taken? natural.Outside = none
+
+unfoldable pub countOf : Call → Option ℕ
+countOf (call.Advance k) = taken? (naturalOf k 0 most)
+countOf (call.AddTrack i lo hi) = none
+countOf (call.SetUp i c) = none
+countOf (call.SetPoint i p e w c g) = none
+countOf (call.DropPoint i p) = none
+countOf (call.Play i) = none
+countOf (call.Pause i) = none
+countOf (call.Resume i) = none
+countOf (call.Stop i) = none
+countOf call.Clear = none
+countOf call.Clock = none
+countOf (call.Track i) = none
+countOf (call.Point i p) = none
+countOf (call.PointCount i from to) = none
+
+abbrev pub advanceBy : ℕ → Call
+advanceBy n = call.Advance (pos n)
+
+-- what a call answers, and the board and log that it leaves
+abbrev pub does : Call → World Board → Did Reply (World Board)
+does c w = perform gridstep (part most countOf advanceBy c) w
+
+abbrev pub world : Board → List ℕ → World Board
+world b log = record { board = b; log = log }
+
+-- an answer, a board and a log are those that a call gives
+pub record Gives (d : Did Reply (World Board)) (reply : Reply) (board : Board) (log : List ℕ) : Type 0 where
+  pub answer-is : reply ≡ d .answer
+  pub board-is : board ≡ d .left .board
+  pub log-is : log ≡ d .left .log
+
+-- ---- What a call tells, as the code has it, and 01's reply.
+
+abbrev pub replyOf : Told → Track → Reply
+replyOf told.Accepted t = accepted
+replyOf (told.Refused n) t = refused n
+replyOf (told.Done n) t = done (n .0)
+replyOf (told.LogFull n) t = logFull (n .0)
+replyOf (told.ClockEnd n) t = clockEnded (n .0)
+replyOf (told.Clock c held) t = clockIs c held
+replyOf told.Track t = trackIs t
+replyOf (told.Point p) t = pointIs p
+replyOf (told.Count n) t = countIs n

@@ -1,0 +1,76 @@
+-- The four mode calls (01, "Track", "Other calls", "Turned down"), as far as the log's length decides them.
+use Prim.Native.Nat.{ℕ, _+_, _*_}
+use mathlib.Core.Bool.{cond}
+use mathlib.Core.List.{List, []}
+use lib.ListN.{length, set}
+use lib.IntN.{ℤ}
+use lib.Dec.{leb}
+use Rattle.track.specs.declared.grid.Decision.{Decision}
+use Rattle.track.specs.declared.grid.Decision.the-variants as decision
+use Rattle.track.specs.declared.setup.Answer.{Answer}
+use Rattle.track.specs.declared.setup.Answer.the-variants.{Accepted, Refused}
+use Rattle.track.specs.Rule.{entered}
+use Rattle.track.specs.Grid.{gridOf}
+use Rattle.track.specs.Number.{onNatural}
+use Rattle.board.specs.declared.Board.{Board}
+use Rattle.board.specs.declared.log.Record.{Record}
+use Rattle.board.specs.Log.{recordWidth, logBytes, writeAt, capacity}
+use Rattle.board.specs.declared.setup.Outcome.{Outcome}
+use Rattle.board.specs.declared.mode.Ruled.{Ruled}
+use mathlib.Core.Path.{_≡_}
+use Rattle.board.specs.Board.{trackAt, unbrokenTest, foundIn}
+use Rattle.board.specs.Setup.{boardWith}
+use Rattle.board.specs.Tick.{changeRecords}
+
+-- what a call with the log comes to: the answer, the board with its records not yet counted, and those records
+pub record Ruling : Type 0 where
+  pub answer : Answer
+  pub board : Board
+  pub records : List Record
+
+abbrev pub declined : ℕ → Board → Ruling
+declined n b = record { answer = Refused n; board = b; records = [] }
+
+-- the records that a change of mode of track i to `mode` writes, with the clock as it is, position and passes before any rewinding
+abbrev pub callRecords : Board → ℕ → ℕ → List Record
+callRecords b i mode =
+    let t = trackAt (b .tracks) i in
+    changeRecords (b .clock .0) i t mode (t .position .0) (t .passes .0)
+
+-- track i goes to `mode`
+abbrev pub changing : Board → ℕ → ℕ → Ruling
+changing b i mode =
+    record {
+      answer = Accepted;
+      board = boardWith b (set (b .tracks) i (entered (trackAt (b .tracks) i) mode)) (b .present) (b .points) (b .held);
+      records = callRecords b i mode;
+    }
+
+-- 8 the mode call's record doesn't fit
+unfoldable pub changesTo : Board → ℕ → ℕ → ℕ → Ruling
+changesTo b n i mode = cond (leb (b .held + length (callRecords b i mode)) (capacity n)) (changing b i mode) (declined 8 b)
+
+-- 2 mode does not allow the call
+unfoldable pub decided : Board → ℕ → ℕ → Decision → Ruling
+decided b n i (decision.Goes mode) = changesTo b n i mode
+decided b n i decision.Refused = declined 2 b
+
+-- 3 broken, 7 capacity below held, 1 track, 2 mode, 8 no room; n is the log's length
+unfoldable pub modeRuling : Board → ℕ → ℤ → ℕ → Ruling
+modeRuling b n track call =
+    cond (unbrokenTest b)
+    (cond (leb (b .held) (capacity n))
+    (onNatural (foundIn (b .present) track) (λ i. decided b n i (gridOf (trackAt (b .tracks) i .mode) call)) (declined 1 b))
+    (declined 7 b))
+    (declined 3 b)
+
+-- an outcome, and the log before and after it, follow a ruling: the records go behind the held ones, and held grows by them
+pub record Follows (m : Ruling) (o : Outcome) (before after : List ℕ) : Type 0 where
+  pub answer-is : o .answer ≡ m .answer
+  pub board-is : o .board ≡ boardWith (m .board) (m .board .tracks) (m .board .present) (m .board .points) (m .board .held + length (m .records))
+  pub log-is : after ≡ writeAt before (m .board .held * recordWidth) (logBytes (m .records))
+
+-- the outcome on b of what a call comes to: one track put in its place, and the number of records held
+abbrev pub outcomeOf : Board → Ruled → Outcome
+outcomeOf b r =
+    record { answer = r .answer; board = boardWith b (set (b .tracks) (r .at) (r .track)) (b .present) (b .points) (r .held) }

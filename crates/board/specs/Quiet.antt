@@ -1,0 +1,80 @@
+-- Quiet ticks (01, "Advance"): no step of a playing track reaches a point of its own or stops it, so that they are leapt.
+use Prim.Native.Nat.{ℕ, zero, suc, _/_, _%_, _≤_, _<_}
+use mathlib.Core.Path.{_≡_}
+use mathlib.Core.Logic.{_⊎_}
+use mathlib.Core.List.{List, [], _∷_}
+use mathlib.Core.Bool.{Bool, true, false, _||_}
+use lib.ListN.{set}
+use Rattle.track.specs.declared.Track.{Track}
+use Rattle.track.specs.Rule.{Valid, clockEnd}
+use Rattle.track.specs.Walk.{arrival, stops}
+use Rattle.track.specs.Leap.{leap}
+use Rattle.board.specs.Points.{key, hasKey, infoAt}
+use Rattle.board.specs.Board.{trackAt}
+use Rattle.board.specs.Tick.{playBit}
+
+-- every number of a list, and one at least
+unfoldable pub Each : (ℕ → Type 0) → List ℕ → Type 0
+Each P [] = Unit {0}
+Each P (i ∷ is) = P i × Each P is
+
+unfoldable pub Some : (ℕ → Type 0) → List ℕ → Type 0
+Some P [] = ⊥
+Some P (i ∷ is) = P i ⊎ Some P is
+
+-- the info beside a key is not 0, so that an info of 0 says that there is no point
+unfoldable pub Telling : List ℕ → List ℕ → Type 0
+Telling ks ds = (k : ℕ) → hasKey k ks ≡ true → infoAt k ks ds ≡ 0 → ⊥
+
+-- the next step of track t, number i, reaches a point of its own
+abbrev pub reaches : List ℕ → ℕ → Track → Bool
+reaches ks i t = hasKey (key i (arrival t)) ks
+
+-- it does, or it stops the track
+unfoldable pub loud : List ℕ → ℕ → Track → Bool
+loud ks i t = stops t || reaches ks i t
+
+-- no step of the first r is loud
+abbrev pub Calm : List ℕ → ℕ → ℕ → Track → Type 0
+Calm ks r i t = (j : ℕ) → j < r → loud ks i (leap t j) ≡ false
+
+-- r is the number of steps before the first that reaches a point, or the clock's end where that is less
+pub record ToPoint (ks : List ℕ) (i : ℕ) (t : Track) (r : ℕ) : Type 0 where
+  pub small : r ≤ clockEnd
+  pub none : (j : ℕ) → j < r → reaches ks i (leap t j) ≡ false
+  pub exact : r < clockEnd → reaches ks i (leap t r) ≡ true
+
+-- r is the number of steps before the first loud one, or the clock's end where that is less
+pub record QuietSteps (ks : List ℕ) (i : ℕ) (t : Track) (r : ℕ) : Type 0 where
+  pub small : r ≤ clockEnd
+  pub quiet : Calm ks r i t
+  pub exact : r < clockEnd → loud ks i (leap t r) ≡ true
+
+-- r is the number of ticks before the first in which a step of the tracks of these numbers is loud, or a where that is less
+pub record Fewest (ks : List ℕ) (ts : List Track) (is : List ℕ) (a r : ℕ) : Type 0 where
+  pub small : r ≤ a
+  pub quiet : Each (λ i. Calm ks r i (trackAt ts i)) is
+  pub exact : r < a → Some (λ i. loud ks i (leap (trackAt ts i) r) ≡ true) is
+
+-- a track that can be leapt, and the tracks of these numbers can
+pub record Able (t : Track) : Type 0 where
+  pub valid : Valid t
+  pub passes : t .passes .0 ≤ clockEnd
+
+abbrev pub Leapable : List Track → List ℕ → Type 0
+Leapable ts is = Each (λ i. Able (trackAt ts i)) is
+
+-- the tracks of these numbers k steps on, read from ts and put into us
+unfoldable pub leapInto : ℕ → List Track → List ℕ → List Track → List Track
+leapInto k ts [] us = us
+leapInto k ts (i ∷ is) us = leapInto k ts is (set us i (leap (trackAt ts i) k))
+
+-- x where the bit is set, else y
+abbrev pub whereSet : {A : Type 0} → ℕ → A → A → A
+whereSet zero x y = y
+whereSet (suc bit) x y = x
+
+-- the playing tracks k steps on, the others as they are
+unfoldable pub leapTracks : ℕ → ℕ → List Track → List Track
+leapTracks k present [] = []
+leapTracks k present (t ∷ ts) = whereSet (playBit (present % 2) t) (leap t k) t ∷ leapTracks k (present / 2) ts

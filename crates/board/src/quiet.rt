@@ -1,0 +1,114 @@
+// The quiet stretch of a board: ticks in which no playing track reaches a point of its own or stops, taken at once.
+use crate::Board;
+use crate::points::Near;
+use crate::points::Points;
+use track::Ticks;
+use track::Track;
+ghost use mathlib.Core.Path.{_≡_};
+ghost use mathlib.Core.Bool.{true};
+ghost use Prim.Native.Nat.{_≤_, _<_, min};
+ghost use lib.ListN.{length, take};
+ghost use Rattle.track.specs.Rule.{Valid, clockEnd};
+ghost use Rattle.board.specs.Points.{ascendingFrom};
+ghost use Rattle.board.specs.Tick.{members};
+ghost use Rattle.board.specs.Quiet.{Telling, ToPoint, QuietSteps, Leapable, Fewest, leapInto};
+
+// The ticks before the first that reaches a point of the track, or the clock's end where its span has none: the point
+// at the next location or the nearest further on, else the one on home or the nearest further on from there.
+fn to_point<'a>(t: Track, track: u32, keys: &'a [u32], infos: &'a [u32], n: usize) -> Ticks
+    requires { ⌜ Valid t ⌝ }
+    requires { ⌜ track < 16 ⌝ }
+    requires { ⌜ (n ≤ length (now keys)) × (n ≤ length (now infos)) ⌝ }
+    requires { ⌜ ascendingFrom 0 (take n (now keys)) ≡ true ⌝ }
+    requires { ⌜ Telling (take n (now keys)) (take n (now infos)) ⌝ }
+    ensures { λ r. ⌜ ToPoint (take n (now (keys .entry))) track t (r .0) ⌝ }
+{
+    let backward = t.direction == Track::BACKWARD;
+    let start = t.start;
+    let end = t.end;
+    let l = t.arrival();
+    let here = Points::look_up(keys, infos, n, track, l, backward, start, end);
+    if here.info != 0 {
+        return Ticks(0);
+    }
+    let near = here.near;
+    if let Near::At(c) = near {
+        return t.steps_to(c);
+    }
+    let home = t.home();
+    let again = Points::look_up(keys, infos, n, track, home, backward, start, end);
+    if again.info != 0 {
+        return t.steps_to(home);
+    }
+    let next = again.near;
+    match next {
+        Near::At(c) => t.steps_to(c),
+        Near::Nothing => Ticks(Ticks::END),
+    }
+}
+
+// The ticks before the first that reaches a point or stops the track, at most the clock's end.
+fn quiet_steps<'a>(t: Track, track: u32, keys: &'a [u32], infos: &'a [u32], n: usize) -> Ticks
+    requires { ⌜ Valid t ⌝ }
+    requires { ⌜ track < 16 ⌝ }
+    requires { ⌜ (n ≤ length (now keys)) × (n ≤ length (now infos)) ⌝ }
+    requires { ⌜ ascendingFrom 0 (take n (now keys)) ≡ true ⌝ }
+    requires { ⌜ Telling (take n (now keys)) (take n (now infos)) ⌝ }
+    ensures { λ r. ⌜ QuietSteps (take n (now (keys .entry))) track t (r .0) ⌝ }
+{
+    let point = to_point(t, track, keys, infos, n);
+    let stop = t.running();
+    Ticks(smaller(stop.0, point.0))
+}
+
+pub(crate) fn smaller(a: u32, b: u32) -> u32
+    ensures { λ r. ⌜ r ≡ min a b ⌝ }
+{
+    if a <= b {
+        return a;
+    }
+    b
+}
+
+// The fewest quiet ticks of the tracks in the word, at most the clock's end.
+pub(crate) fn quiet<'a>(
+    tracks: [Track; Board::TRACKS],
+    word: u16,
+    keys: &'a [u32],
+    infos: &'a [u32],
+    n: usize,
+) -> Ticks
+    requires { ⌜ Leapable tracks (members word) ⌝ }
+    requires { ⌜ (n ≤ length (now keys)) × (n ≤ length (now infos)) ⌝ }
+    requires { ⌜ ascendingFrom 0 (take n (now keys)) ≡ true ⌝ }
+    requires { ⌜ Telling (take n (now keys)) (take n (now infos)) ⌝ }
+    ensures { λ r. ⌜ Fewest (take n (now (keys .entry))) tracks (members word) clockEnd (r .0) ⌝ }
+{
+    let mut fewest: u32 = Ticks::END;
+    let mut left = word;
+    while 0 < left {
+        let i = u16::trailing_zeros(left) as usize;
+        let t = tracks[i];
+        let steps = quiet_steps(t, i as u32, keys, infos, n);
+        fewest = smaller(fewest, steps.0);
+        left -= 1u16 << i;
+    }
+    Ticks(fewest)
+}
+
+// The tracks in the word, k ticks on.
+pub(crate) fn leapt(tracks: [Track; Board::TRACKS], word: u16, k: Ticks) -> [Track; Board::TRACKS]
+    requires { ⌜ Leapable tracks (members word) ⌝ }
+    requires { ⌜ k .0 ≤ clockEnd ⌝ }
+    ensures { λ r. ⌜ r ≡ leapInto (k .0) tracks (members word) tracks ⌝ }
+{
+    let mut next = tracks;
+    let mut left = word;
+    while 0 < left {
+        let i = u16::trailing_zeros(left) as usize;
+        let t = tracks[i];
+        next[i] = t.leap(k);
+        left -= 1u16 << i;
+    }
+    next
+}

@@ -1,0 +1,236 @@
+// Calls and replies as rows of numbers, and a call done by its row.
+use crate::Board;
+use crate::apply::Applied;
+use crate::apply::apply;
+use crate::call::Call;
+use crate::call::Told;
+use crate::points::Point;
+use track::Coordinate;
+use track::Track;
+use track::number::Natural;
+use track::number::in_range;
+use track::setup::Change;
+ghost use mathlib.Core.Path.{_≡_};
+ghost use Prim.Native.Nat.{_+_, _*_, _≤_};
+ghost use lib.ListN.{length, drop, take};
+ghost use Rattle.board.specs.Row.{codedAs, callOf, callAt, padded, trackNumbers, pointNumbers, numbersOf, rowDoes, RowDone};
+ghost use mathlib.Core.List.{_∷_, [], _++_};
+ghost use Rattle.board.specs.Points.{bit};
+ghost use Rattle.board.specs.Log.{writeAt};
+ghost use Rattle.board.specs.Call.{replyOf, Gives, world, refused};
+
+// Numbers of a call's row.
+pub const CALL_WIDTH: usize = 7;
+
+// What a row comes to.
+pub enum Coded {
+    Call(Call),
+    Nothing,
+}
+
+impl Coded {
+    // The refusal of a row that is no call.
+    pub const NO_CALL: u8 = 9;
+}
+
+// The call of a row: its code, and six numbers.
+pub fn call_of(code: i64, a: i64, b: i64, c: i64, d: i64, e: i64, f: i64) -> Coded
+    ensures { λ r. ⌜ codedAs r ≡ callOf code a b c d e f ⌝ }
+{
+    let Natural::In(n) = in_range(code, 1, 20) else {
+        return Coded::Nothing;
+    };
+    match n {
+        1 => Coded::Call(Call::AddTrack(a, b, c)),
+        2 => Coded::Call(Call::SetUp(a, Change::Start(b))),
+        3 => Coded::Call(Call::SetUp(a, Change::End(b))),
+        4 => Coded::Call(Call::SetUp(a, Change::Loops(b))),
+        5 => Coded::Call(Call::SetUp(a, Change::Repeat(b))),
+        6 => Coded::Call(Call::SetUp(a, Change::Direction(b))),
+        7 => Coded::Call(Call::SetPoint(a, b, c, d, e, f)),
+        8 => Coded::Call(Call::DropPoint(a, b)),
+        9 => Coded::Call(Call::SetUp(a, Change::Action(b, c, d))),
+        10 => Coded::Call(Call::SetUp(a, Change::Jump(b))),
+        11 => Coded::Call(Call::Play(a)),
+        12 => Coded::Call(Call::Pause(a)),
+        13 => Coded::Call(Call::Resume(a)),
+        14 => Coded::Call(Call::Stop(a)),
+        15 => Coded::Call(Call::Advance(a)),
+        16 => Coded::Call(Call::Clear),
+        17 => Coded::Call(Call::Clock),
+        18 => Coded::Call(Call::Track(a)),
+        19 => Coded::Call(Call::Point(a, b)),
+        _ => Coded::Call(Call::PointCount(a, b, c)),
+    }
+}
+
+// The call of row i.
+fn call_at(calls: &[i64], i: usize) -> Coded
+    requires { ⌜ i * 7 + 7 ≤ length (now calls) ⌝ }
+    ensures { λ r. ⌜ codedAs r ≡ callAt (drop (i * 7) (now (calls .entry))) ⌝ }
+{
+    let at = i * CALL_WIDTH;
+    call_of(
+        calls[at],
+        calls[at + 1],
+        calls[at + 2],
+        calls[at + 3],
+        calls[at + 4],
+        calls[at + 5],
+        calls[at + 6],
+    )
+}
+
+// Numbers of a reply's row.
+pub const REPLY_WIDTH: usize = 28;
+
+fn wide(x: u8) -> u64
+    ensures { λ r. ⌜ r ≡ x ⌝ }
+{
+    x as u64
+}
+
+fn bit(on: bool) -> u64
+    ensures { λ r. ⌜ r ≡ bit on ⌝ }
+{
+    if on { 1 } else { 0 }
+}
+
+// A reply of a kind and at most two numbers.
+fn short_row(kind: u64, a: u64, b: u64) -> [u64; REPLY_WIDTH]
+    ensures { λ r. ⌜ r ≡ padded (kind ∷ a ∷ b ∷ []) ⌝ }
+{
+    let mut row = [0u64; REPLY_WIDTH];
+    row[0] = kind;
+    row[1] = a;
+    row[2] = b;
+    row
+}
+
+fn point_row(p: Point) -> [u64; REPLY_WIDTH]
+    ensures { λ r. ⌜ r ≡ padded (7 ∷ pointNumbers p) ⌝ }
+{
+    let mut row = [0u64; REPLY_WIDTH];
+    row[0] = 7;
+    row[1] = p.track as u64;
+    row[2] = p.position.0 as u64;
+    row[3] = p.event as u64;
+    row[4] = bit(p.wait);
+    row[5] = p.command as u64;
+    row[6] = p.target as u64;
+    row
+}
+
+// A track's numbers but for its action cells.
+fn track_head(t: Track) -> [u64; REPLY_WIDTH]
+    ensures { λ r. ⌜ r ≡ padded (6 ∷ take 11 (trackNumbers t)) ⌝ }
+{
+    let mut row = [0u64; REPLY_WIDTH];
+    row[0] = 6;
+    row[1] = t.min.0 as u64;
+    row[2] = t.max.0 as u64;
+    row[3] = t.start.0 as u64;
+    row[4] = t.end.0 as u64;
+    row[5] = t.position.0 as u64;
+    row[6] = t.passes.0 as u64;
+    row[7] = t.loops as u64;
+    row[8] = t.mode as u64;
+    row[9] = t.direction as u64;
+    row[10] = t.repeat as u64;
+    row[11] = t.due as u64;
+    row
+}
+
+// A track's sixteen action cells go behind its other twelve numbers, the kind among them.
+fn with_cells(head: [u64; REPLY_WIDTH], cells: [u8; Track::CELLS]) -> [u64; REPLY_WIDTH]
+    ensures { λ r. ⌜ r ≡ take 12 head ++ cells ⌝ }
+{
+    let mut row = head;
+    let mut j: usize = 0;
+    while j < Track::CELLS {
+        row[12 + j] = wide(cells[j]);
+        j += 1;
+    }
+    row
+}
+
+fn track_row(t: Track) -> [u64; REPLY_WIDTH]
+    ensures { λ r. ⌜ r ≡ padded (6 ∷ trackNumbers t) ⌝ }
+{
+    let cells = t.actions;
+    with_cells(track_head(t), cells)
+}
+
+// The numbers of a reply, its kind first.
+pub fn reply_row(told: Told, track: Track) -> [u64; REPLY_WIDTH]
+    ensures { λ r. ⌜ r ≡ numbersOf (replyOf told track) ⌝ }
+{
+    match told {
+        Told::Accepted => short_row(0, 0, 0),
+        Told::Refused(n) => short_row(1, n as u64, 0),
+        Told::Done(n) => short_row(2, n.0 as u64, 0),
+        Told::LogFull(n) => short_row(3, n.0 as u64, 0),
+        Told::ClockEnd(n) => short_row(4, n.0 as u64, 0),
+        Told::Clock(c, held) => short_row(5, c.0 as u64, held),
+        Told::Track => track_row(track),
+        Told::Point(p) => point_row(p),
+        Told::Count(n) => short_row(8, n, 0),
+    }
+}
+
+// Numbers go to a place where they fit.
+fn put_row(row: &[u64], replies: &mut [u64], at: usize)
+    requires { ⌜ at + length (now row) ≤ length (now replies) ⌝ }
+    ensures { λ _. ⌜ now (replies .exit) ≡ writeAt (now (replies .entry)) at (now (row .entry)) ⌝ }
+{
+    let mut j: usize = 0;
+    while j < row.len() {
+        replies[at + j] = row[j];
+        j += 1;
+    }
+}
+
+// The numbers of a reply, as many as a row has, go to a place where they fit.
+fn put_reply(told: Told, track: Track, replies: &mut [u64], at: usize)
+    requires { ⌜ at + 28 ≤ length (now replies) ⌝ }
+    ensures long { λ _. ⌜ length (numbersOf (replyOf told track)) ≡ 28 ⌝ }
+    ensures written { λ _. ⌜ now (replies .exit) ≡ writeAt (now (replies .entry)) at (numbersOf (replyOf told track)) ⌝ }
+{
+    let row = reply_row(told, track);
+    put_row(&row, replies, at);
+}
+
+// A row that is no call changes nothing.
+fn no_call(b: Board) -> Applied
+    ensures { λ r. ⌜ (replyOf (r .told) (r .track) ≡ refused 9) × (r .board ≡ b) ⌝ }
+{
+    Applied {
+        told: Told::Refused(Coded::NO_CALL),
+        track: Track::new(Coordinate(0), Coordinate(0)),
+        board: b,
+    }
+}
+
+// What a row comes to, done.
+pub fn answer(b: Board, row: Coded, log: &mut [u8]) -> Applied
+    ensures { λ r. ⌜ Gives (rowDoes (codedAs row) (world b (now (log .entry)))) (replyOf (r .told) (r .track)) (r .board) (now (log .exit)) ⌝ }
+{
+    let Coded::Call(c) = row else {
+        return no_call(b);
+    };
+    apply(b, c, log)
+}
+
+// Row i is done, and its reply written.
+pub fn do_row(b: Board, calls: &[i64], i: usize, log: &mut [u8], replies: &mut [u64]) -> Board
+    requires { ⌜ i * 7 + 7 ≤ length (now calls) ⌝ }
+    requires { ⌜ i * 28 + 28 ≤ length (now replies) ⌝ }
+    ensures { λ r. ⌜ RowDone (callAt (drop (i * 7) (now (calls .entry)))) (world b (now (log .entry))) (now (replies .entry)) (i * 28) r (now (log .exit)) (now (replies .exit)) ⌝ }
+{
+    let row = call_at(calls, i);
+    let r = answer(b, row, log);
+    let told = r.told;
+    let track = r.track;
+    put_reply(told, track, replies, i * REPLY_WIDTH);
+    r.board
+}

@@ -1,5 +1,0 @@
-pub mod Digits
-pub mod Words
-pub mod Fields
-pub mod Rows
-pub mod Examples

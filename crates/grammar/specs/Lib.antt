@@ -1,2 +1,0 @@
-pub mod Grammar
-pub mod Scan

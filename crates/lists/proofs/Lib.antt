@@ -1,5 +1,0 @@
-pub mod Runs
-pub mod Cards
-pub mod Reports
-pub mod Lists
-pub mod Executing

@@ -1,4 +1,0 @@
-pub mod Machine
-pub mod Advancing
-pub mod Walked
-pub mod Cost

@@ -1,1 +1,0 @@
-// The theory of lists of calls over any board: no code, only definitions and laws.

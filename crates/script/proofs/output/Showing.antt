@@ -1,0 +1,74 @@
+-- The laws of what is printed: notes of answers, and records of the log one behind the other.
+use Prim.Native.Nat.{ℕ, zero, suc, _+_, _-_, _≤_, _<_, min}
+use mathlib.Core.Path.{_≡_, refl, sym, ap, _∙_}
+use mathlib.Core.Bool.{Bool, true, false}
+use mathlib.Core.List.{List, _++_, append-assoc}
+use native.Mathlib.Omega.{arith}
+use lib.Dec.{leb}
+use lib.ListN.{length, drop, take, length-drop, drop-of-length-le}
+use lib.Seq.{drop-drop, take-all}
+use borrow.Author.Tests.{leb-true, leb-false}
+use Rattle.track.specs.declared.Track.{Track}
+use Rattle.board.specs.Log.{unpackOf}
+use Rattle.board.specs.declared.call.Told.{Told}
+use Rattle.board.specs.Call.{replyOf}
+use Rattle.script.specs.declared.text.Out.{Out}
+use Rattle.script.specs.Output.{noteOf, unpackedLine, recordLines}
+use Rattle.script.specs.Text.{textOf, Wrote}
+
+-- what is printed of an answer that is known
+pub note-is : (line : ℕ) (r : Out) {told x : Told} → told ≡ x → ((t : Track) → textOf r ≡ noteOf line (replyOf x t)) →
+    (t : Track) → textOf r ≡ noteOf line (replyOf told t)
+note-is line r e f t = f t ∙ ap (λ (y : Told). noteOf line (replyOf y t)) (sym e)
+
+-- ---- records
+
+-- past the end there is nothing, however far
+pub drop-least : (s : List ℕ) (n k : ℕ) → k ≡ min n (length s) → drop k s ≡ drop n s
+drop-least s n k e = go (leb n (length s)) refl
+  where
+    go : (t : Bool) → leb n (length s) ≡ t → drop k s ≡ drop n s
+    go true q =
+        let h = leb-true n (length s) q in
+        let z : k ≡ n = omega arith in
+        ap (λ (j : ℕ). drop j s) z
+    go false q =
+        let h = leb-false n (length s) q in
+        drop-of-length-le s {i = k} (omega arith) ∙ sym (drop-of-length-le s {i = n} (omega arith))
+
+module _ (s : List ℕ) (at end : ℕ) (within : at ≤ length s) (end-is : end ≡ min (at + 16) (length s)) where
+  record-at : take (end - at) (drop at s) ≡ take 16 (drop at s)
+  record-at = go (leb (at + 16) (length s)) refl
+    where
+      go : (t : Bool) → leb (at + 16) (length s) ≡ t → take (end - at) (drop at s) ≡ take 16 (drop at s)
+      go true q =
+          let h = leb-true (at + 16) (length s) q in
+          let z : end - at ≡ 16 = omega arith in
+          ap (λ (j : ℕ). take j (drop at s)) z
+      go false q =
+          let h = leb-false (at + 16) (length s) q in
+          let l = length-drop at s in
+          take-all (end - at) (drop at s) (omega arith) ∙ sym (take-all 16 (drop at s) (omega arith))
+
+  record-next : drop 16 (drop at s) ≡ drop end s
+  record-next = drop-drop 16 at s ∙ sym (drop-least s (at + 16) end end-is)
+
+lines-next : (n : ℕ) (s : List ℕ) → 0 < n → recordLines n s ≡ unpackedLine (unpackOf (take 16 s)) ++ recordLines (n - 1) (drop 16 s)
+lines-next zero s h = absurd (omega arith)
+lines-next (suc n) s h =
+    let z : suc n - 1 ≡ n = omega arith in
+    ap (λ (k : ℕ). unpackedLine (unpackOf (take 16 s)) ++ recordLines k (drop 16 s)) (sym z)
+
+-- one record more is written
+pub shown-next : {all : List ℕ} (s out out′ : List ℕ) (at end left used used′ : ℕ) (o : Out) → at ≤ length s → end ≡ min (at + 16) (length s) → 0 < left →
+    all ≡ take used out ++ recordLines left (drop at s) → textOf o ≡ unpackedLine (unpackOf (take (end - at) (drop at s))) →
+    Wrote (textOf o) used out used′ out′ → all ≡ take used′ out′ ++ recordLines (left - 1) (drop end s)
+shown-next s out out′ at end left used used′ o h q p e t w =
+    let text = unpackedLine (unpackOf (take 16 (drop at s))) in
+    let here = sym (record-at s at end h q) in
+    let next = record-next s at end h q in
+    e
+    ∙ ap (λ (x : List ℕ). take used out ++ x) (lines-next left (drop at s) p)
+    ∙ sym (append-assoc (take used out) text (recordLines (left - 1) (drop 16 (drop at s))))
+    ∙ (λ i. take used out ++ unpackedLine (unpackOf (here i)) ++ recordLines (left - 1) (next i))
+    ∙ ap (λ (x : List ℕ). x ++ recordLines (left - 1) (drop end s)) (ap (λ (x : List ℕ). take used out ++ x) (sym t) ∙ sym (w .text-is))
