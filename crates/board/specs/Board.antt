@@ -3,7 +3,7 @@ use Prim.Native.Nat.{ℕ, suc, _/_, _%_, _^_, _≤_, _<_}
 use mathlib.Core.Path.{_≡_}
 use mathlib.Core.List.{List, [], _∷_}
 use mathlib.Core.Bool.{Bool, true, cond, not, _&&_, _||_}
-use lib.ListN.{getD, replicate, take}
+use lib.ListN.{length, getD, replicate, take}
 use lib.Dec.{leb, ltb, eqb}
 use Rattle.track.specs.declared.Track.{Track}
 use Rattle.track.specs.declared.Ticks.{Ticks}
@@ -63,14 +63,24 @@ pub record PointRule (present : ℕ) (ts : List Track) (p : Point) : Type 0 wher
 abbrev pub pointAt : Points → ℕ → Point
 pointAt t j = pointOf (getD (t .keys) j 0) (getD (t .infos) j 0)
 
--- A board that keeps every range and rule given for tracks, points and clock, and no more: absent tracks and what stands past
--- the points' count are no part of it, and held has no rule.
+-- The shape of a board: sixteen tracks, a word of as many bits, and two rows with a place for each point. Every board of the code has it
+-- by its type.
+pub record Shaped (b : Board) : Type 0 where
+  pub tracks : length (b .tracks) ≡ trackCount
+  pub present : b .present < 2 ^ trackCount
+  pub keys : length (b .points .keys) ≡ pointMost
+  pub infos : length (b .points .infos) ≡ pointMost
+
+-- A board that keeps every range and rule given for tracks, points and clock. Absent tracks and what stands past the points' count
+-- are no part of it, and held has no rule.
 pub record Unbroken (b : Board) : Type 0 where
+  pub shape : Shaped b
   pub clock : b .clock .0 ≤ clockEnd
   pub tracks : (i : ℕ) → isPresent (b .present) i ≡ true → Sound (trackAt (b .tracks) i) (b .clock)
   pub count : b .points .count ≤ pointMost
-  pub order : ascendingFrom 0 (keysOf (b .points)) ≡ true
   pub points : (j : ℕ) → j < b .points .count → PointRule (b .present) (b .tracks) (pointAt (b .points) j)
+  -- the form in which the table keeps "at most one for a track and position", which is all that 01 says: the keys ascend strictly
+  pub order : ascendingFrom 0 (keysOf (b .points)) ≡ true
 
 -- ---- the same as a test
 
@@ -98,11 +108,19 @@ pointsTest present ts lo (k ∷ ks) (d ∷ ds) =
     && (placeTest present (trackAt ts (pointOf k d .track)) (pointOf k d)
     && (deedTest present (pointOf k d) && pointsTest present ts (suc k) ks ds))
 
+-- the present word, tracks, keys and infos
+unfoldable pub shapeTest : ℕ → List Track → List ℕ → List ℕ → Bool
+shapeTest present ts keys infos =
+    eqb (length ts) trackCount
+    && (ltb present (2 ^ trackCount) && (eqb (length keys) pointMost && eqb (length infos) pointMost))
+
 -- a board by its parts: the present word, tracks, clock, keys, infos and the points' count
 unfoldable pub unbrokenParts : ℕ → List Track → Ticks → List ℕ → List ℕ → ℕ → Bool
 unbrokenParts present ts clock keys infos n =
     leb (clock .0) clockEnd
-    && (leb n pointMost && (tracksTest present ts clock && pointsTest present ts 0 (take n keys) (take n infos)))
+    && (leb n pointMost
+    && (tracksTest present ts clock
+    && (pointsTest present ts 0 (take n keys) (take n infos) && shapeTest present ts keys infos)))
 
 abbrev pub unbrokenTest : Board → Bool
 unbrokenTest b =

@@ -156,7 +156,7 @@ pub(crate) fn unbroken<'a>(
     infos: &'a [u32],
     n: usize,
 ) -> bool
-    requires { ⌜ (pointMost ≤ length (now keys)) × (pointMost ≤ length (now infos)) ⌝ }
+    requires { ⌜ (length (now keys) ≡ pointMost) × (length (now infos) ≡ pointMost) ⌝ }
     ensures { λ r. ⌜ r ≡ unbrokenParts present tracks clock (now (keys .entry)) (now (infos .entry)) n ⌝ }
 {
     if Ticks::END < clock.0 {

@@ -24,7 +24,7 @@ use Rattle.board.specs.declared.advance.Left.{Left}
 use Rattle.board.specs.declared.call.Advanced.{Advanced}
 use Rattle.board.specs.declared.call.Advanced.the-variants as advanced
 use Rattle.board.specs.Log.{writeAt, recordWidth, logBytes, capacity}
-use Rattle.board.specs.Board.{unbrokenParts, unbrokenTest, pointsTest, tracksTest, trackAt}
+use Rattle.board.specs.Board.{unbrokenParts, unbrokenTest, pointsTest, tracksTest, shapeTest, trackAt}
 use Rattle.board.specs.Points.{pointMost, keysOf, infosOf}
 use Rattle.board.specs.Tick.{Stage, staged, tickFrom, playingWord, members}
 use Rattle.board.specs.Quiet.{Each, Calm, Leapable, leapTracks, leapInto}
@@ -60,7 +60,9 @@ whole-points b h =
     let n = b .points .count in
     let points = pointsTest (b .present) (b .tracks) 0 (keysOf (b .points)) (infosOf (b .points)) in
     let tracks = tracksTest (b .present) (b .tracks) (b .clock) in
-    both tracks points (both (leb n pointMost) (tracks && points) (both (leb (b .clock .0) clockEnd) (leb n pointMost && (tracks && points)) h .1) .1) .1
+    let rest = points && shapeTest (b .present) (b .tracks) (b .points .keys) (b .points .infos) in
+    let p = both (leb (b .clock .0) clockEnd) (leb n pointMost && (tracks && rest)) h in
+    both points _ (both tracks rest (both (leb n pointMost) (tracks && rest) (p .1) .1) .1) .0
 
 -- where the tick loop stands: `taken` ticks done of `count`, on a log of the length it had
 pub record Going (b : Board) (count : ℕ) (log₀ log : List ℕ) (ts : List Track) (clock held taken : ℕ) (answer : Advanced) : Type 0 where

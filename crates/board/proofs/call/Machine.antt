@@ -26,7 +26,7 @@ use Rattle.board.specs.declared.setup.Outcome.{Outcome}
 use Rattle.board.specs.declared.call.Call.{Call}
 use Rattle.board.specs.declared.call.Call.the-variants as call
 use Rattle.board.specs.Points.{keysOf, infosOf}
-use Rattle.board.specs.Board.{trackAt, isPresent, unbrokenTest, foundIn}
+use Rattle.board.specs.Board.{trackAt, isPresent, unbrokenTest, foundIn, Unbroken}
 use Rattle.board.specs.Setup.{boardWith, setUp, addTrack, setPoint, dropPoint, clearBoard}
 use Rattle.board.specs.Tick.{tickOf}
 use Rattle.board.specs.Mode.{Ruling, declined, callRecords, changing, changesTo, decided, modeRuling, Follows}
@@ -36,12 +36,12 @@ use Rattle.board.specs.Call.{refused, answered, Stop, ends, fills, stopp
 use Rattle.board.specs.Call.{haltOf, barOf, madeOf, madeBy, saysOf, makesOf, gridstep, countOf, does, world, Gives}
 use Rattle.board.proofs.log.Records.{length-record}
 use Rattle.board.proofs.tick.Staging.{length-log, write-none}
-use Rattle.board.proofs.rules.Broken.{Shaped, unbroken-of}
+use Rattle.board.proofs.rules.Broken.{unbroken-of, unbroken-is}
 use Rattle.board.proofs.setup.Ways.{by-natural, set-up-ways, add-track-ways, set-point-ways, drop-point-ways, clear-ways}
 use Rattle.board.proofs.rules.Present.{found-in}
 use Rattle.board.proofs.tick.Commands.{Goes?, grid-goes}
 use Rattle.board.proofs.tick.Steps.{entered-bounded, tick-long, tick-keeps}
-use Rattle.board.proofs.setup.Keeping.{Whole, whole-test, put-track-whole, held-whole, set-up-whole, add-track-whole, set-point-whole, drop-point-whole, clear-whole}
+use Rattle.board.proofs.setup.Keeping.{put-track-whole, held-whole, set-up-whole, add-track-whole, set-point-whole, drop-point-whole, clear-whole}
 use Rattle.board.proofs.replay.Cuts.{ticks-on, ticks-off, advance-in, advance-out, Read}
 use Rattle.board.proofs.replay.Replays.{Counts, Room, sets-write}
 
@@ -268,17 +268,17 @@ read = record {
 
 -- ---- no mode call and no tick makes a broken board
 
-module _ (b : Board) (w : Whole b) (held : ℕ) where
+module _ (b : Board) (w : Unbroken b) (held : ℕ) where
   -- no mode call breaks a board, whatever is held
   pub mode-whole : (n : ℕ) (track : ℤ) (code : ℕ) →
       let c = modeRuling b n track code .board in
-      Whole (boardWith c (c .tracks) (c .present) (c .points) held)
+      Unbroken (boardWith c (c .tracks) (c .present) (c .points) held)
   mode-whole n track code =
       held-whole (modeRuling b n track code .board)
-      (ruling-ways b n (λ (m : Ruling). Whole (m .board)) (λ k. w)
+      (ruling-ways b n (λ (m : Ruling). Unbroken (m .board)) (λ k. w)
       (λ i mode h l _.
       let t = trackAt (b .tracks) i in
-      let s = w .unbroken .tracks i h in
+      let s = w .tracks i h in
       let k = entered-bounded (t .min) (t .max) t (refl, refl) mode in
       put-track-whole b w i (entered t mode) h
       (record { valid = entered-valid t (s .valid) mode l; passes = omega (arith, s .passes, entered-passes t mode) }) (k .0) (k .1))
@@ -287,20 +287,13 @@ module _ (b : Board) (w : Whole b) (held : ℕ) where
   -- nor does a tick below the clock's end
   pub tick-whole : b .clock .0 < clockEnd →
       let c = ticked b in
-      Whole (boardWith c (c .tracks) (c .present) (c .points) held)
-  tick-whole l =
-      let s : Shaped (boardWith (ticked b) (tickOf b .tracks) (b .present) (b .points) held) =
-      record {
-        tracks = tick-long (keysOf (b .points)) (infosOf (b .points)) (b .clock .0 + 1) (b .present) (b .tracks) ∙ w .shaped .tracks;
-        keys = w .shaped .keys;
-        infos = w .shaped .infos;
-      } in
-      record { shaped = s; unbroken = unbroken-of _ s (tick-keeps b held (whole-test b w) l) }
+      Unbroken (boardWith c (c .tracks) (c .present) (c .points) held)
+  tick-whole l = unbroken-of _ (tick-keeps b held (unbroken-is b w) l)
 
   -- nor any other call
   pub made-whole : (c : Call) (n : ℕ) →
       let m = makesOf c n b .board in
-      Whole (boardWith m (m .tracks) (m .present) (m .points) held)
+      Unbroken (boardWith m (m .tracks) (m .present) (m .points) held)
   unfolding makesOf
   made-whole (call.AddTrack i lo hi) n = held-whole _ (add-track-whole b w i lo hi) held
   made-whole (call.SetUp i c) n = held-whole _ (set-up-whole b w i c) held
@@ -318,24 +311,24 @@ module _ (b : Board) (w : Whole b) (held : ℕ) where
   made-whole (call.PointCount i from to) n = held-whole b w held
 
 -- nor any number of ticks
-ticks-whole : (n : ℕ) (w : World Board) → Whole (w .board) → Whole (ticks (w-halt gridstep) (w-step gridstep) n w .end .board)
+ticks-whole : (n : ℕ) (w : World Board) → Unbroken (w .board) → Unbroken (ticks (w-halt gridstep) (w-step gridstep) n w .end .board)
 unfolding ticks
 ticks-whole zero w h = h
 ticks-whole (suc n) w h = go (w-halt gridstep w) refl (ticks-whole n (w-step gridstep w))
   where
     go : (o : Option Stop) → w-halt gridstep w ≡ o →
-        (Whole (w-step gridstep w .board) → Whole (ticks (w-halt gridstep) (w-step gridstep) n (w-step gridstep w) .end .board)) →
-        Whole (ticks (w-halt gridstep) (w-step gridstep) (suc n) w .end .board)
+        (Unbroken (w-step gridstep w .board) → Unbroken (ticks (w-halt gridstep) (w-step gridstep) n (w-step gridstep w) .end .board)) →
+        Unbroken (ticks (w-halt gridstep) (w-step gridstep) (suc n) w .end .board)
     go none e more =
         rw (ticks-on (w-halt gridstep) (w-step gridstep) n w e)
         (more (tick-whole (w .board) h _ (halt-none (length (w .log)) (w .board) e .0)))
     go (some x) e more = rw (ticks-off (w-halt gridstep) (w-step gridstep) n w x e) h
 
 -- no call makes a broken board
-pub call-whole : (p : Part Call) (w : World Board) → Whole (w .board) → Whole (perform gridstep p w .left .board)
+pub call-whole : (p : Part Call) (w : World Board) → Unbroken (w .board) → Unbroken (perform gridstep p w .left .board)
 call-whole (one c) w h = made-whole (w .board) h _ c (length (w .log))
 call-whole (run n) w h = go (w-bar gridstep w) refl
   where
-    go : (o : Option ℕ) → w-bar gridstep w ≡ o → Whole (perform gridstep (run n) w .left .board)
+    go : (o : Option ℕ) → w-bar gridstep w ≡ o → Unbroken (perform gridstep (run n) w .left .board)
     go none e = rw (advance-in (w-halt gridstep) (w-step gridstep) (w-bar gridstep) stoppedBy refused n w e) (ticks-whole n w h)
     go (some k) e = rw (advance-out (w-halt gridstep) (w-step gridstep) (w-bar gridstep) stoppedBy refused n w k e) h

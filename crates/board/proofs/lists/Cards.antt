@@ -20,15 +20,15 @@ use Rattle.board.specs.declared.log.Record.{Record}
 use Rattle.board.specs.declared.setup.Drawn.the-variants as drawn
 use Rattle.board.specs.Log.{logBytes}
 use Rattle.board.specs.Points.{keysOf, keyOf, infoOf, hasKey, storedIn}
-use Rattle.board.specs.Board.{trackAt, freshBoard, foundIn}
+use Rattle.board.specs.Board.{trackAt, freshBoard, foundIn, Unbroken}
 use Rattle.board.specs.Setup.{drawnFrom, setPoint, putPoints}
 use Rattle.board.specs.Setup as outcome
 use Rattle.board.specs.Tick.{recordOf}
 use Rattle.board.specs.Cut.{All}
 use Rattle.board.specs.Replay.{World}
 use Rattle.board.specs.Call.{Reply, accepted, refused, done, logFull, clockEnded, world}
+use Rattle.board.proofs.rules.Broken.{unbroken-is}
 use Rattle.board.proofs.points.Storing.{stored-full, stored-replaces}
-use Rattle.board.proofs.setup.Keeping.{Whole, whole-test}
 use Rattle.board.proofs.lists.Runs.{Shown, ran, shown}
 
 -- ---- calls as script lines have them
@@ -250,12 +250,12 @@ traps =
 
 -- ---- L for any board: a call whose numbers draw the point p
 
-module _ (b : Board) (w : Whole b) (track position event wait command target : ℤ) (i : ℕ) (p : Point)
+module _ (b : Board) (w : Unbroken b) (track position event wait command target : ℤ) (i : ℕ) (p : Point)
     (found : foundIn (b .present) track ≡ natural.In i) (free : settled (trackAt (b .tracks) i .mode) ≡ true)
     (good : drawnFrom (b .present) i (trackAt (b .tracks) i) position event wait command target ≡ drawn.Good p) where
   stores : setPoint b track position event wait command target ≡ putPoints b 5 (storedIn (b .points) (keyOf p) (infoOf p))
   unfolding setPoint
-  stores = simp (whole-test b w, found, free, good)
+  stores = simp (unbroken-is b w, found, free, good)
 
   -- where 256 points are held and none at its place, it is refused 5, the board equal
   pub full-refused : b .points .count ≡ 256 → hasKey (keyOf p) (keysOf (b .points)) ≡ false →

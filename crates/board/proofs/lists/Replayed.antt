@@ -22,7 +22,7 @@ use Rattle.board.specs.declared.call.Advanced.{Advanced}
 use Rattle.board.specs.declared.call.Advanced.the-variants as advanced
 use Rattle.board.specs.declared.call.Call.{Call}
 use Rattle.board.specs.declared.call.Call.the-variants as call
-use Rattle.board.specs.Board.{freshBoard}
+use Rattle.board.specs.Board.{freshBoard, Unbroken}
 use Rattle.board.specs.Setup.{setUp, addTrack, setPoint, dropPoint, clearBoard}
 use Rattle.board.specs.Query.{clockOf, trackOf, pointIn, countIn}
 use Rattle.board.specs.Mode.{modeRuling}
@@ -37,7 +37,6 @@ use Rattle.board.specs.Arrivals.{arrivalsIn, noteOf, notesIn, isPoint}
 use Rattle.board.proofs.replay.Cuts.{recut, cut, advance-add, advance-in, advance-out}
 use Rattle.board.proofs.replay.Replays.{shown-takes, w-kept, agrees, rows, kinds, cuts, gathered-length, total-same}
 use Rattle.board.proofs.call.Machine.{counts, room, kept, read, call-whole}
-use Rattle.board.proofs.setup.Keeping.{Whole}
 use Rattle.board.proofs.lists.Reports.{tick-points, call-points}
 use Rattle.board.proofs.apply.Applying.{add-track-gives, set-up-gives, set-point-gives, drop-point-gives, clear-gives}
 use Rattle.board.proofs.apply.Applying.{clock-gives, track-gives, point-gives, point-count-gives}
@@ -231,10 +230,10 @@ demand-3 {cs} {log} t =
 
 -- ---- no list of calls makes a broken board
 
-pub trace-whole : {cs : List Call} {w u : World Board} {xs : List Reply} → Trace cs w xs u → Whole (w .board) → Whole (u .board)
+pub trace-whole : {cs : List Call} {w u : World Board} {xs : List Reply} → Trace cs w xs u → Unbroken (w .board) → Unbroken (u .board)
 trace-whole nothing h = h
 trace-whole (then {c = c} {w = w} s t) h =
-    trace-whole t (subst (λ (d : Did Reply (World Board)). Whole (d .left .board)) (step-is c w s) (call-whole (part most countOf advanceBy c) w h))
+    trace-whole t (subst (λ (d : Did Reply (World Board)). Unbroken (d .left .board)) (step-is c w s) (call-whole (part most countOf advanceBy c) w h))
 
 -- ---- the contracts can be met
 

@@ -28,11 +28,11 @@ use Rattle.track.proofs.Setups.{changed-keeps}
 use Rattle.board.proofs.points.Keys.{same-or-not}
 use Rattle.board.specs.declared.Board.{Board}
 use Rattle.board.specs.declared.setup.Outcome.{Outcome}
-use Rattle.board.specs.Board.{trackAt, noTrack, isPresent, unbrokenTest, foundIn}
+use Rattle.board.specs.Board.{trackAt, noTrack, isPresent, unbrokenTest, foundIn, Unbroken}
 use Rattle.board.specs.Setup.{refused, boardWith, putTrack, setUp, addTrack}
 use Rattle.board.proofs.rules.Broken.{present-small}
 use Rattle.board.proofs.rules.Present.{found-in}
-use Rattle.board.proofs.setup.Keeping.{Whole, present-added, present-others}
+use Rattle.board.proofs.setup.Keeping.{present-added, present-others}
 use Rattle.board.proofs.setup.Ways.{by-natural, add-track-ways, set-point-ways, drop-point-ways, clear-ways}
 use Rattle.board.proofs.tick.Commands.{at-set}
 use Rattle.board.specs.Mode.{Ruling, declined, callRecords, changing, changesTo, decided, modeRuling}
@@ -82,7 +82,7 @@ present-mode b i h = cond-yes _ _ h refl
 
 -- ---- one call
 
-module _ (b : Board) (whole : Whole b) (i : ℕ) where
+module _ (b : Board) (whole : Unbroken b) (i : ℕ) where
   abbrev mode : ℕ
   mode = modeOf b i
 
@@ -141,7 +141,7 @@ module _ (b : Board) (whole : Whole b) (i : ℕ) where
         e,
         present-added (b .present) j l absent,
         absent,
-        getD-set-same (b .tracks) j (newTrack low high) noTrack (omega (arith, whole .shaped .tracks)),
+        getD-set-same (b .tracks) j (newTrack low high) noTrack (omega (arith, whole .shape .tracks)),
       ))
       (λ (n : i ≡ j → ⊥). rw (present-others (b .present) j l absent i n, getD-set-other (b .tracks) j i (newTrack low high) noTrack n))
       (same-or-not i j))
@@ -179,7 +179,7 @@ module _ (b : Board) (whole : Whole b) (i : ℕ) where
       at : (j : ℕ) → naturalOf track 0 15 ≡ natural.In j → isPresent (b .present) j ≡ true → Traced (putTrack b j (changedBy (trackAt (b .tracks) j) c))
       at j e h =
           let t = trackAt (b .tracks) j in
-          let k = changed-keeps t (whole .unbroken .tracks j h .valid) c in
+          let k = changed-keeps t (whole .tracks j h .valid) c in
           let same = placed j (changedBy t c .track) (λ q. k .mode ∙ ap (λ (n : ℕ). trackAt (b .tracks) n .mode) (sym q)) in
           let xs = cond (isRefusal (answered (changedBy t c .answer))) (exc ∷ []) (changeActs c) in
           number-path track j xs _ e (λ q. let s = same-mode j h q in path-ends xs s (s ∙ sym same) (change-path t c)) (λ _. same)
@@ -198,7 +198,7 @@ module _ (b : Board) (whole : Whole b) (i : ℕ) where
       let t = trackAt (b .tracks) j in
       let u = entered t m in
       let led = subst (Led (t .mode) c) g (grid-led (t .mode) c) in
-      let here = getD-set-same (b .tracks) j u noTrack (omega (arith, present-small (b .present) j h, whole .shaped .tracks)) in
+      let here = getD-set-same (b .tracks) j u noTrack (omega (arith, present-small (b .present) j h, whole .shape .tracks)) in
       number-path track j (actOf c ∷ []) _ e
       (λ q. path-ends (actOf c ∷ []) (same-mode j h q)
       (sym (entered-mode t m) ∙ ap (λ (t : Track). t .mode) (sym here) ∙ present-mode (changing b j m .board) j h ∙ ap (modeOf (changing b j m .board)) q) led)
@@ -239,12 +239,12 @@ module _ (i : ℕ) where
   abbrev From : World Board → List Act → World Board → Type 0
   From w xs v = Path (modeOf (w .board) i) xs (modeOf (v .board) i)
 
-  ticks-path : (n : ℕ) (w : World Board) → Whole (w .board) → From w (ticksActs i (passed halts steps n w)) (ticks halts steps n w .end)
+  ticks-path : (n : ℕ) (w : World Board) → Unbroken (w .board) → From w (ticksActs i (passed halts steps n w)) (ticks halts steps n w .end)
   unfolding ticks passed ticksActs Path
   ticks-path zero w h = refl
   ticks-path (suc n) w h = go (halts w) refl (ticks-path n (steps w))
     where
-      go : (o : Option Stop) → halts w ≡ o → (Whole (steps w .board) → From (steps w) (ticksActs i (passed halts steps n (steps w))) (ticks halts steps n (steps w) .end))
+      go : (o : Option Stop) → halts w ≡ o → (Unbroken (steps w .board) → From (steps w) (ticksActs i (passed halts steps n (steps w))) (ticks halts steps n (steps w) .end))
           → From w (ticksActs i (passed halts steps (suc n) w)) (ticks halts steps (suc n) w .end)
       go none e more =
           rw (ticks-on halts steps n w e, passed-on halts steps n w e)
@@ -252,7 +252,7 @@ module _ (i : ℕ) where
           (more (tick-whole (w .board) h _ (halt-none (length (w .log)) (w .board) e .0))))
       go (some x) e more = rw (ticks-off halts steps n w x e, passed-off halts steps n w x e) refl
 
-  part-path : (p : Part Call) (w : World Board) → Whole (w .board) → From w (callActs i p w) (perform gridstep p w .left)
+  part-path : (p : Part Call) (w : World Board) → Unbroken (w .board) → From w (callActs i p w) (perform gridstep p w .left)
   unfolding callActs ticksActs Path
   part-path (one c) w h = call-path (w .board) h i c (length (w .log))
   part-path (run n) w h = go (w-bar gridstep w) refl
@@ -272,7 +272,7 @@ module _ (i : ℕ) where
           refl
 
   -- the acts of track i in a list of calls on a whole board lead from its mode before to its mode after
-  pub list-path : (ps : List (Part Call)) (w : World Board) → Whole (w .board) → From w (listActs i ps w) (performs (perform gridstep) ps w .last)
+  pub list-path : (ps : List (Part Call)) (w : World Board) → Unbroken (w .board) → From w (listActs i ps w) (performs (perform gridstep) ps w .last)
   unfolding listActs Path
   list-path [] w h = refl
   list-path (p ∷ ps) w h =

@@ -21,10 +21,9 @@ use Rattle.track.proofs.Tests.{cond-cases, cond-yes, cond-no}
 use Rattle.track.proofs.Numbers.{natural-of}
 use Rattle.board.specs.declared.Board.{Board}
 use Rattle.board.specs.declared.setup.Outcome.{Outcome}
-use Rattle.board.specs.Board.{trackAt, noTrack, isPresent, foundIn}
+use Rattle.board.specs.Board.{trackAt, noTrack, isPresent, foundIn, Unbroken}
 use Rattle.board.specs.Setup.{setUp, addTrack, setPoint, dropPoint, clearBoard}
-use Rattle.board.proofs.rules.Broken.{present-small}
-use Rattle.board.proofs.setup.Keeping.{Whole, whole-test}
+use Rattle.board.proofs.rules.Broken.{present-small, unbroken-is}
 use Rattle.board.proofs.setup.Ways.{set-up-refused, add-track-refused, set-point-refused, drop-point-refused, clear-refused}
 use Rattle.board.specs.Mode.{Ruling, callRecords, changing, changesTo, decided, modeRuling}
 use Rattle.board.specs.Log.{capacity}
@@ -95,7 +94,7 @@ refused-same (run n) w k = go (w-bar gridstep w) refl
 
 -- ---- mode calls on a present track
 
-module _ (w : World Board) (whole : Whole (w .board)) (i : ℕ) (present : isPresent (w .board .present) i ≡ true) where
+module _ (w : World Board) (whole : Unbroken (w .board)) (i : ℕ) (present : isPresent (w .board .present) i ≡ true) where
   abbrev b : Board
   b = w .board
 
@@ -121,13 +120,13 @@ module _ (w : World Board) (whole : Whole (w .board)) (i : ℕ) (present : isPre
   -- what the grid lets act is accepted, if its record fits
   goes : (c m : ℕ) → gridOf (t .mode) c ≡ decision.Goes m → Fits i m w → ruling c ≡ changing b i m
   unfolding modeRuling decided changesTo
-  goes c m g fits = rw (whole-test b whole, le-leb (b .held) (capacity n) (omega arith), found, g, le-leb _ (capacity n) fits)
+  goes c m g fits = rw (unbroken-is b whole, le-leb (b .held) (capacity n) (omega arith), found, g, le-leb _ (capacity n) fits)
 
   -- and is not refused 2, whether it fits or not
   not-2 : (c m : ℕ) → gridOf (t .mode) c ≡ decision.Goes m → answered (ruling c .answer) ≡ refused 2 → ⊥
   unfolding modeRuling decided changesTo
   not-2 c m g =
-      rw (whole-test b whole, found, g)
+      rw (unbroken-is b whole, found, g)
       (cond-cases Not2 (leb (b .held) (capacity n))
       (λ _. cond-cases Not2 (leb (b .held + length (callRecords b i m)) (capacity n))
       (λ _ e. let z : _≡_ {A = ℕ} 0 1 = cc in omega arith) (λ _ e. let z : _≡_ {A = ℕ} 8 2 = cc in omega arith))
@@ -165,11 +164,11 @@ module _ (w : World Board) (whole : Whole (w .board)) (i : ℕ) (present : isPre
       × (Fits i STOPPED w → Brings i (call.Stop (pos i)) doSTOP w × (trackAt (does (call.Stop (pos i)) w .left .board .tracks) i ≡ stopped t))
   unfolding gridOf entered countOf callActs saysOf makesOf isOn deedOf
   stops =
-      let valid = whole .unbroken .tracks i present .valid in
+      let valid = whole .tracks i present .valid in
       let g : gridOf (t .mode) STOP ≡ decision.Goes STOPPED = sym (cond-yes _ _ (le-leb (t .mode) WAITING (valid .mode)) refl) in
       let l = present-small (b .present) i present in (
         not-2 STOP STOPPED g,
         λ fits.
             let e = goes STOP STOPPED g fits in
-            (rw (on, e), rw e (getD-set-same (b .tracks) i (stopped t) noTrack (omega (arith, whole .shaped .tracks)))),
+            (rw (on, e), rw e (getD-set-same (b .tracks) i (stopped t) noTrack (omega (arith, whole .shape .tracks)))),
       )

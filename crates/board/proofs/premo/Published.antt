@@ -10,9 +10,9 @@ use Rattle.track.specs.Rule.{STOPPED, PLAYING}
 use Rattle.track.proofs.Tests.{cond-cases}
 use Rattle.board.specs.Points.{hasKey}
 use Rattle.board.specs.declared.Board.{Board}
-use Rattle.board.specs.Board.{trackAt, isPresent, freshBoard}
+use Rattle.board.specs.Board.{trackAt, isPresent, freshBoard, Unbroken}
 use Rattle.board.proofs.rules.Broken.{present-set}
-use Rattle.board.proofs.setup.Keeping.{Whole, fresh-whole}
+use Rattle.board.proofs.setup.Keeping.{fresh-whole}
 use Rattle.board.specs.declared.call.Call.{Call}
 use Rattle.board.specs.declared.call.Call.the-variants as call
 use Rattle.board.specs.Cut.{All, Part, part, performs, passed, crossed}
@@ -31,7 +31,7 @@ use Rattle.board.proofs.premo.Paths.{path-ends, path-resume-first, path
 use Rattle.board.proofs.premo.Calls.{list-path}
 use Rattle.board.proofs.premo.Enabled.{refused-same, raised, resumes, stops}
 
-list-whole : (ps : List (Part Call)) (w : World Board) → Whole (w .board) → Whole (performs (perform gridstep) ps w .last .board)
+list-whole : (ps : List (Part Call)) (w : World Board) → Unbroken (w .board) → Unbroken (performs (perform gridstep) ps w .last .board)
 list-whole [] w h = h
 list-whole (p ∷ ps) w h = list-whole ps (perform gridstep p w .left) (call-whole p w h)
 
@@ -46,7 +46,7 @@ pub modes : (i : ℕ) (cs : List Call) (log : List ℕ) → Path STOPPED (traceO
 modes i cs log = path-ends (traceOf i cs log) (fresh-mode i) refl (list-path i (cutUp cs) (world freshBoard log) fresh-whole)
 
 -- a mode that offers doRESUME is that of a present track
-resumes-present : (w : World Board) (i : ℕ) → Whole (w .board) → offers (modeOf (w .board) i) doRESUME ≡ true →
+resumes-present : (w : World Board) (i : ℕ) → Unbroken (w .board) → offers (modeOf (w .board) i) doRESUME ≡ true →
     (does (call.Resume (pos i)) w .answer ≡ refused 2 → ⊥) × (Fits i PLAYING w → Brings i (call.Resume (pos i)) doRESUME w)
 unfolding offers
 resumes-present w i h = go (isPresent (w .board .present) i) refl

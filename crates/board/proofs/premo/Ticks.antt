@@ -20,9 +20,8 @@ use Rattle.track.proofs.Tests.{cond-cases, both, refuted}
 use Rattle.board.specs.Points.{ascendingFrom, key, keysOf, infosOf, infoAt, hasKey}
 use Rattle.board.proofs.points.Keys.{same-or-not, ascending-head, ascending-rest}
 use Rattle.board.specs.declared.Board.{Board}
-use Rattle.board.specs.Board.{trackAt, noTrack, isPresent}
-use Rattle.board.proofs.rules.Broken.{present-small, present-bit, half-bit}
-use Rattle.board.proofs.setup.Keeping.{Whole, whole-test}
+use Rattle.board.specs.Board.{trackAt, noTrack, isPresent, Unbroken}
+use Rattle.board.proofs.rules.Broken.{present-small, present-bit, half-bit, unbroken-is}
 use Rattle.board.specs.Tick.{members}
 use Rattle.board.specs.Quiet.{Each}
 use Rattle.board.specs.Tick.{waits, commandOf, targetOf, Stage, staged, reachedBy, playingWord, foundBy, stepMember, stepAll, commanded, obeyed, runAll, tickFrom, tickOf}
@@ -232,13 +231,13 @@ no-commands i (d ∷ ds) t p = go (no-commands i ds t (p .1)) (eqb (targetOf d) 
     go rest false e = rest
 
 -- with a command the target is present
-module _ (b : Board) (whole : Whole b) (i : ℕ) (absent : isPresent (b .present) i ≡ false) where
+module _ (b : Board) (whole : Unbroken b) (i : ℕ) (absent : isPresent (b .present) i ≡ false) where
   info-elsewhere : (k : ℕ) → Elsewhere i (infoAt k (ks b) (ps b))
   info-elsewhere k e =
       let d = infoAt k (ks b) (ps b) in
       ⊎-elim (λ (z : commandOf d ≡ 0). z)
       (λ (n : commandOf d ≡ 0 → ⊥).
-      let target = found-target (b .present) (b .tracks) (ks b) (ps b) (whole-points b (whole-test b whole)) k n in
+      let target = found-target (b .present) (b .tracks) (ks b) (ps b) (whole-points b (unbroken-is b whole)) k n in
       absurd (true≢false (sym target ∙ ap (isPresent (b .present)) (eqb-true (targetOf d) i e) ∙ absent)))
       (same-or-not (commandOf d) 0)
 
@@ -260,7 +259,7 @@ module _ (b : Board) (whole : Whole b) (i : ℕ) (absent : isPresent (b .present
 
 -- ---- the tick
 
-module _ (b : Board) (whole : Whole b) (i : ℕ) where
+module _ (b : Board) (whole : Unbroken b) (i : ℕ) where
   abbrev before : Track
   before = trackAt (b .tracks) i
 
@@ -273,7 +272,7 @@ module _ (b : Board) (whole : Whole b) (i : ℕ) where
     where
       go : (p : Bool) → plays b i ≡ p
           → Path (before .mode) (cond p (stepActs before (infoMet b i)) []) (cond p (step before (waits (infoMet b i))) before .mode)
-      go true e = step-path before (infoMet b i) (plays-is b i (whole .shaped .tracks) e .0)
+      go true e = step-path before (infoMet b i) (plays-is b i (whole .shape .tracks) e .0)
       go false e = refl
 
   present-path : isPresent (b .present) i ≡ true
@@ -282,7 +281,7 @@ module _ (b : Board) (whole : Whole b) (i : ℕ) where
   present-path h =
       let word = playingWord (b .present) (b .tracks) in
       let s = stepsFrom (ks b) (ps b) (clock b) (members word) (b .tracks) in
-      let l : i < length (b .tracks) = omega (arith, present-small (b .present) i h, whole .shaped .tracks) in
+      let l : i < length (b .tracks) = omega (arith, present-small (b .present) i h, whole .shape .tracks) in
       let m : i < length (s .tracks) = rw (steps-long (ks b) (ps b) (clock b) (members word) (staged (b .tracks) [] [])) l in
       let own = steps-at (ks b) (ps b) (clock b) i 0 (members word) (staged (b .tracks) [] []) (members-ascend 16 0 word) l in
       let reached = steps-reached b 0 (members word) (b .tracks) (members-ascend 16 0 word) (λ j _. refl) in
@@ -296,7 +295,7 @@ module _ (b : Board) (whole : Whole b) (i : ℕ) where
   absent-acts : isPresent (b .present) i ≡ false → tickActs i b ≡ []
   unfolding tickActs
   absent-acts h =
-      let off = refuted (plays b i) (λ e. true≢false (sym (plays-is b i (whole .shaped .tracks) e .1) ∙ h)) in
+      let off = refuted (plays b i) (λ e. true≢false (sym (plays-is b i (whole .shape .tracks) e .1) ∙ h)) in
       rw (sym off) (no-commands i (reachedIn b) before (reached-elsewhere b whole i h (members (playingWord (b .present) (b .tracks)))))
 
   -- the acts of a track in a tick lead from its mode before to its mode after

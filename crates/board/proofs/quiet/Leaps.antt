@@ -19,7 +19,7 @@ use Rattle.board.specs.Points.{keysOf, infosOf, firstFrom, pointOf}
 use Rattle.board.specs.Board.{noTrack, trackAt, isPresent, Unbroken}
 use Rattle.board.specs.Tick.{members, playBit, playingWord}
 use Rattle.board.specs.Quiet.{Telling, Able, Leapable, leapInto, whereSet, leapTracks}
-use Rattle.board.proofs.rules.Broken.{Shaped, present-bit, half-bit}
+use Rattle.board.proofs.rules.Broken.{present-bit, half-bit}
 use Rattle.board.proofs.points.Keys.{has-first}
 use Rattle.board.proofs.points.Table.{info-has}
 use Rattle.board.proofs.quiet.Players.{EachPlaying, SomePlaying, players, bit-plays, members-playing, longer, each-implies, each-playing, each-member}
@@ -168,10 +168,10 @@ sound-able present ts clock l c f =
 
 -- ---- an unbroken board
 
-module _ (b : Board) (s : Shaped b) (u : Unbroken b) where
+module _ (b : Board) (u : Unbroken b) where
   -- its playing tracks can be leapt
   pub unbroken-able : Leapable (b .tracks) (members (playingWord (b .present) (b .tracks)))
-  unbroken-able = sound-able (b .present) (b .tracks) (b .clock) (s .tracks) (u .clock) (u .tracks)
+  unbroken-able = sound-able (b .present) (b .tracks) (b .clock) (u .shape .tracks) (u .clock) (u .tracks)
 
   -- an event is at least 1, so that an info of 0 says that there is no point
   pub unbroken-telling : Telling (keysOf (b .points)) (infosOf (b .points))
@@ -181,8 +181,8 @@ module _ (b : Board) (s : Shaped b) (u : Unbroken b) where
       let ks = keysOf (b .points) in
       let j = firstFrom ks k in
       let c = u .count in
-      let lk = length-take-le n (b .points .keys) (omega (arith, s .keys)) in
-      let li = length-take-le n (b .points .infos) (omega (arith, s .infos)) in
+      let lk = length-take-le n (b .points .keys) (omega (arith, u .shape .keys)) in
+      let li = length-take-le n (b .points .infos) (omega (arith, u .shape .infos)) in
       let l : j < n = omega (arith, has-first k j ks (u .order) refl h .0) in
       let e = info-has k ks (infosOf (b .points)) (u .order) (lk ∙ sym li) h in
       let g = getD-take n (b .points .infos) j 0 l in

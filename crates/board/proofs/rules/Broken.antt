@@ -17,7 +17,7 @@ use Rattle.track.proofs.Checks.{sound-of, sound-is}
 use Rattle.board.specs.declared.Board.{Board}
 use Rattle.board.specs.declared.points.Point.{Point}
 use Rattle.board.specs.Points.{pointMost, ascendingFrom, pointOf}
-use Rattle.board.specs.Board.{trackCount, eventMost, trackAt, isPresent, PointRule, Unbroken, tracksTest, placeTest, deedTest, pointsTest, unbrokenParts, unbrokenTest}
+use Rattle.board.specs.Board.{trackCount, eventMost, trackAt, isPresent, PointRule, Shaped, Unbroken, tracksTest, placeTest, deedTest, pointsTest, shapeTest, unbrokenParts, unbrokenTest}
 
 -- ---- presence
 
@@ -138,13 +138,30 @@ module _ (present : ℕ) (ts : List Track) where
 
 -- ---- the board
 
--- the rows and the tracks are as long as their types say
-pub record Shaped (b : Board) : Type 0 where
-  pub tracks : length (b .tracks) ≡ trackCount
-  pub keys : length (b .points .keys) ≡ pointMost
-  pub infos : length (b .points .infos) ≡ pointMost
+module _ (present : ℕ) (ts : List Track) (keys infos : List ℕ) where
+  shape-of : shapeTest present ts keys infos ≡ true →
+      (length ts ≡ trackCount) × (present < 2 ^ trackCount) × (length keys ≡ pointMost) × (length infos ≡ pointMost)
+  unfolding shapeTest
+  shape-of h =
+      let last = eqb (length keys) pointMost && eqb (length infos) pointMost in
+      let a = both (eqb (length ts) trackCount) (ltb present (2 ^ trackCount) && last) h in
+      let b = both (ltb present (2 ^ trackCount)) last (a .1) in
+      let c = both (eqb (length keys) pointMost) (eqb (length infos) pointMost) (b .1) in
+      (eqb-true _ _ (a .0), ltb-true _ _ (b .0), eqb-true _ _ (c .0), eqb-true _ _ (c .1))
 
-module _ (b : Board) (s : Shaped b) where
+  pub shape-is : length ts ≡ trackCount → present < 2 ^ trackCount → length keys ≡ pointMost → length infos ≡ pointMost →
+      shapeTest present ts keys infos ≡ true
+  unfolding shapeTest
+  shape-is t p k i = both-is (eq-eqb _ _ t) (both-is (lt-ltb _ _ p) (both-is (eq-eqb _ _ k) (eq-eqb _ _ i)))
+
+-- tracks of the same number have the same shape
+pub shape-same : (present : ℕ) (ts us : List Track) (keys infos : List ℕ) → length us ≡ length ts →
+    shapeTest present us keys infos ≡ shapeTest present ts keys infos
+unfolding shapeTest
+shape-same present ts us keys infos e =
+    ap (λ (n : ℕ). eqb n trackCount && (ltb present (2 ^ trackCount) && (eqb (length keys) pointMost && eqb (length infos) pointMost))) e
+
+module _ (b : Board) where
   -- a board that passes the test keeps the rules
   pub unbroken-of : unbrokenTest b ≡ true → Unbroken b
   unfolding unbrokenParts
@@ -153,17 +170,22 @@ module _ (b : Board) (s : Shaped b) where
       let ks = take n (b .points .keys) in
       let ds = take n (b .points .infos) in
       let tests = pointsTest (b .present) (b .tracks) 0 ks ds in
-      let p = both (leb (b .clock .0) clockEnd) (leb n pointMost && (tracksTest (b .present) (b .tracks) (b .clock) && tests)) h in
-      let q = both (leb n pointMost) (tracksTest (b .present) (b .tracks) (b .clock) && tests) (p .1) in
-      let r = both (tracksTest (b .present) (b .tracks) (b .clock)) tests (q .1) in
+      let shape = shapeTest (b .present) (b .tracks) (b .points .keys) (b .points .infos) in
+      let tracks = tracksTest (b .present) (b .tracks) (b .clock) in
+      let p = both (leb (b .clock .0) clockEnd) (leb n pointMost && (tracks && (tests && shape))) h in
+      let q = both (leb n pointMost) (tracks && (tests && shape)) (p .1) in
+      let r = both tracks (tests && shape) (q .1) in
+      let t = both tests shape (r .1) in
+      let s = shape-of (b .present) (b .tracks) (b .points .keys) (b .points .infos) (t .1) in
       let m : n ≤ pointMost = leb-true _ _ (q .0) in
-      let lk : length ks ≡ n = length-take-le n (b .points .keys) (omega (arith, s .keys)) in
-      let ld : length ds ≡ n = length-take-le n (b .points .infos) (omega (arith, s .infos)) in
-      let e = points-of (b .present) (b .tracks) 0 ks ds (omega arith) (r .1) in
+      let lk : length ks ≡ n = length-take-le n (b .points .keys) (omega (arith, s .2)) in
+      let ld : length ds ≡ n = length-take-le n (b .points .infos) (omega (arith, s .3)) in
+      let e = points-of (b .present) (b .tracks) 0 ks ds (omega arith) (t .0) in
       record {
+        shape = record { tracks = s .0; present = s .1; keys = s .2; infos = s .3 };
         clock = leb-true _ _ (p .0);
         tracks = λ i h. tracks-at (b .tracks) (b .present) (b .clock) (r .0) i
-            (let l = present-small (b .present) i h in omega (arith, s .tracks)) (present-set (b .present) i h);
+            (let l = present-small (b .present) i h in omega (arith, s .0)) (present-set (b .present) i h);
         count = m;
         order = e .0;
         points = λ j l.
@@ -179,15 +201,18 @@ module _ (b : Board) (s : Shaped b) where
       let n = b .points .count in
       let ks = take n (b .points .keys) in
       let ds = take n (b .points .infos) in
+      let s = u .shape in
       let lk : length ks ≡ n = length-take-le n (b .points .keys) (omega (arith, s .keys, u .count)) in
       both-is (le-leb _ _ (u .clock))
       (both-is (le-leb _ _ (u .count))
       (both-is
       (tracks-are (b .tracks) (b .present) (b .clock)
       (λ i l e. u .tracks i (sym (present-bit (b .present) i (omega (arith, s .tracks))) ∙ eq-eqb _ _ e)))
+      (both-is
       (points-are (b .present) (b .tracks) 0 ks ds (u .order)
       (λ j l.
       let m : j < n = omega (arith, lk) in
       let x = getD-take n (b .points .keys) j 0 m in
       let y = getD-take n (b .points .infos) j 0 m in
-      rw (x, y) (u .points j m)))))
+      rw (x, y) (u .points j m)))
+      (shape-is (b .present) (b .tracks) (b .points .keys) (b .points .infos) (s .tracks) (s .present) (s .keys) (s .infos)))))

@@ -1,7 +1,7 @@
 -- What the rules' definitions come to on each way through the functions that test them.
 use Prim.Native.Nat.{ℕ, _+_, _*_, _/_, _%_, _≤_, _<_}
 use mathlib.Core.Path.{_≡_, refl, sym, _∙_, ap}
-use mathlib.Core.Bool.{Bool, true, false, cond, not, _&&_, _||_, and-false}
+use mathlib.Core.Bool.{Bool, true, false, cond, not, _&&_, _||_, and-false, and-true}
 use mathlib.Core.List.{List, [], _∷_, map}
 use native.Mathlib.Numerals.{add-one}
 use native.Mathlib.Omega.{arith}
@@ -18,7 +18,7 @@ use Rattle.track.specs.Number.{naturalOf}
 use Rattle.board.specs.declared.points.Point.{Point}
 use Rattle.board.specs.Board.{foundIn}
 use Rattle.board.specs.Points.{pointMost, stride, pointOf}
-use Rattle.board.specs.Board.{eventMost, noTrack, trackAt, isPresent, tracksTest, placeTest, deedTest, pointsTest, unbrokenParts}
+use Rattle.board.specs.Board.{eventMost, noTrack, trackAt, isPresent, tracksTest, placeTest, deedTest, pointsTest, shapeTest, unbrokenParts}
 use Rattle.board.proofs.rules.Broken.{present-not}
 
 -- the length of an array of structs, from what its row tells
@@ -166,9 +166,9 @@ module _ (present : ℕ) (ts : List Track) (clock : Ticks) (keys infos : List �
   parts-tracks e h = simp (← e, h, and-false)
 
   pub parts-points : clock .0 ≤ clockEnd → n ≤ pointMost → {b r : Bool} → b ≡ tracksTest present ts clock → b ≡ true →
-      r ≡ pointsTest present ts 0 (take n keys) (take n infos) → r ≡ unbrokenParts present ts clock keys infos n
+      r ≡ pointsTest present ts 0 (take n keys) (take n infos) → shapeTest present ts keys infos ≡ true → r ≡ unbrokenParts present ts clock keys infos n
   unfolding unbrokenParts
-  parts-points c l e h q = q ∙ simp (le-leb _ _ c, le-leb _ _ l, ← e, h)
+  parts-points c l e h q s = q ∙ simp (le-leb _ _ c, le-leb _ _ l, ← e, h, s, and-true)
 
 -- ---- the number of a present track
 

@@ -35,7 +35,7 @@ use Rattle.board.specs.Points.{stride, keysOf, infosOf, infoAt, pointOf,
 use Rattle.board.specs.Query.{inRange, pointRead}
 use Rattle.board.specs.Setup.{drawnFrom, ableOnly, pointWith, accepted, refused, boardWith, putPoints, onDrawn}
 use Rattle.board.specs.declared.Board.{Board}
-use Rattle.board.proofs.rules.Broken.{Shaped, present-small, point-of}
+use Rattle.board.proofs.rules.Broken.{present-small, point-of}
 use Rattle.board.proofs.points.Table.{info-entry}
 use Rattle.board.proofs.rules.Present.{target-below}
 
@@ -88,7 +88,7 @@ drawn-rule present i ts position event wait command target h e =
 
 -- ---- the keys of an unbroken board
 
-module _ (b : Board) (s : Shaped b) (u : Unbroken b) where
+module _ (b : Board) (u : Unbroken b) where
   -- a coordinate of a point is at most that of position 1,000,000, its track's number below 16, its info below 2^24
   pub point-small : (j : ℕ) → j < b .points .count →
       (getD (b .points .keys) j 0 % stride ≤ coordinateLast) × (getD (b .points .keys) j 0 < 33554432) × (getD (b .points .infos) j 0 < 16777216)
@@ -107,7 +107,7 @@ module _ (b : Board) (s : Shaped b) (u : Unbroken b) where
       infoAt k (keysOf (b .points)) (infosOf (b .points)) < 16777216
   info-small k n =
       let e = info-entry k (keysOf (b .points)) (infosOf (b .points)) n in
-      let lk = length-take-le (b .points .count) (b .points .keys) (omega (arith, u .count, s .keys)) in
+      let lk = length-take-le (b .points .count) (b .points .keys) (omega (arith, u .count, u .shape .keys)) in
       let l : e .0 < b .points .count = omega (arith, e .1) in
       let g = getD-take (b .points .count) (b .points .infos) (e .0) 0 l in
       omega (arith, point-small (e .0) l .2, e .3)
@@ -151,18 +151,18 @@ count-same p q (x ∷ xs) h =
     rw (h zero (zero-lt-suc (length xs)), count-same p q xs (λ j l. h (suc j) (suc-le-suc l)))
 
 -- the count that the code takes from the clamped bounds
-pub counted : (b : Board) → Shaped b → Unbroken b → (i : ℕ) (from to : ℤ) {x y z n : ℕ} → x ≡ clampedOf from → y ≡ x - 1 → z ≡ clampedOf to →
+pub counted : (b : Board) → Unbroken b → (i : ℕ) (from to : ℤ) {x y z n : ℕ} → x ≡ clampedOf from → y ≡ x - 1 → z ≡ clampedOf to →
     n ≡ countOf (between (i * stride + y) (i * stride + z)) (keysOf (b .points)) → n ≡ countOf (inRange i from to) (keysOf (b .points))
-counted b s u i from to {x} {y} {z} ex ey ez en =
+counted b u i from to {x} {y} {z} ex ey ez en =
     en
     ∙ (λ j. countOf (between (i * stride + (ey ∙ ap (λ (m : ℕ). m - 1) ex) j) (i * stride + ez j)) (keysOf (b .points)))
     ∙ count-same (between (i * stride + (clampedOf from - 1)) (i * stride + clampedOf to)) (inRange i from to) (keysOf (b .points))
     (λ j l.
     let n = b .points .count in
-    let lk = length-take-le n (b .points .keys) (omega (arith, u .count, s .keys)) in
+    let lk = length-take-le n (b .points .keys) (omega (arith, u .count, u .shape .keys)) in
     let m : j < n = omega arith in
     range-key i from to (getD (keysOf (b .points)) j 0)
-    (rw (getD-take n (b .points .keys) j 0 m) (point-small b s u j m .0)))
+    (rw (getD-take n (b .points .keys) j 0 m) (point-small b u j m .0)))
 
 -- ---- the ways out of the queries and of `add_track`
 

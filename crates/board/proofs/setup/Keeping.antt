@@ -23,21 +23,13 @@ use Rattle.board.specs.declared.setup.Outcome.{Outcome}
 use Rattle.board.specs.Points.{ascendingFrom, noPoints, pointOf, keyOf, infoOf, storedIn, droppedFrom}
 use Rattle.board.specs.Board.{trackCount, trackAt, noTrack, isPresent, PointRule, Unbroken, unbrokenTest, freshBoard}
 use Rattle.board.specs.Setup.{boardWith, setUp, addTrack, setPoint, dropPoint, clearBoard}
-use Rattle.board.proofs.rules.Broken.{Shaped, unbroken-is, present-small, present-set, present-bit, half-bit}
+use Rattle.board.proofs.rules.Broken.{present-small, present-set, present-bit, half-bit}
+use Rattle.board.proofs.rules.Present.{with-track-fits}
 use Rattle.board.proofs.points.Keys.{same-or-not}
 use Rattle.board.proofs.points.Packing.{point-back}
 use Rattle.board.proofs.points.Table.{Sorted, EachPoint}
 use Rattle.board.proofs.points.Storing.{stored-sorted, stored-each, dropped-sorted, dropped-each}
 use Rattle.board.proofs.setup.Ways.{set-up-ways, add-track-ways, set-point-ways, drop-point-ways, clear-ways}
-
--- every list as long as its type says, and every rule kept
-pub record Whole (b : Board) : Type 0 where
-  pub shaped : Shaped b
-  pub unbroken : Unbroken b
-
--- a whole board passes the test
-pub whole-test : (b : Board) → Whole b → unbrokenTest b ≡ true
-whole-test b w = unbroken-is b (w .shaped) (w .unbroken)
 
 -- ---- the word with one track more
 
@@ -106,29 +98,27 @@ rule-kept word word′ ts ts′ p still same r = record {
 abbrev pub EntryRule : ℕ → List Track → ℕ → ℕ → Type 0
 EntryRule word ts k d = PointRule word ts (pointOf k d)
 
-module _ (b : Board) (w : Whole b) where
+module _ (b : Board) (w : Unbroken b) where
   -- a track put in the place i, present beside those that were, whose bounds are not moved
-  placed : (i : ℕ) (u : Track) (word : ℕ) → i < trackCount → Sound u (b .clock) →
+  placed : (i : ℕ) (u : Track) (word : ℕ) → i < trackCount → word < 2 ^ trackCount → Sound u (b .clock) →
       ((j : ℕ) → isPresent word j ≡ true → (j ≡ i → ⊥) → isPresent (b .present) j ≡ true) →
       ((j : ℕ) → isPresent (b .present) j ≡ true → isPresent word j ≡ true) →
       (isPresent (b .present) i ≡ true → SameBounds u (trackAt (b .tracks) i)) →
-      Whole (boardWith b (set (b .tracks) i u) word (b .points) (b .held))
-  placed i u word l sound was still bounds = record {
-    shaped = record { tracks = length-set (b .tracks) i u ∙ w .shaped .tracks; keys = w .shaped .keys; infos = w .shaped .infos };
-    unbroken = record {
-      clock = w .unbroken .clock;
-      tracks = λ j h.
-          ⊎-elim (λ (e : j ≡ i). rw (e, here) sound)
-          (λ (n : j ≡ i → ⊥). rw (there j n) (w .unbroken .tracks j (was j h n)))
-          (same-or-not j i);
-      count = w .unbroken .count;
-      order = w .unbroken .order;
-      points = λ j m. rule-kept (b .present) word (b .tracks) (set (b .tracks) i u) _ still same (w .unbroken .points j m);
-    };
+      Unbroken (boardWith b (set (b .tracks) i u) word (b .points) (b .held))
+  placed i u word l fits sound was still bounds = record {
+    shape = record { tracks = length-set (b .tracks) i u ∙ w .shape .tracks; present = fits; keys = w .shape .keys; infos = w .shape .infos };
+    clock = w .clock;
+    tracks = λ j h.
+        ⊎-elim (λ (e : j ≡ i). rw (e, here) sound)
+        (λ (n : j ≡ i → ⊥). rw (there j n) (w .tracks j (was j h n)))
+        (same-or-not j i);
+    count = w .count;
+    points = λ j m. rule-kept (b .present) word (b .tracks) (set (b .tracks) i u) _ still same (w .points j m);
+    order = w .order;
   }
     where
       here : trackAt (set (b .tracks) i u) i ≡ u
-      here = getD-set-same (b .tracks) i u noTrack (omega (arith, w .shaped .tracks))
+      here = getD-set-same (b .tracks) i u noTrack (omega (arith, w .shape .tracks))
 
       there : (j : ℕ) → (j ≡ i → ⊥) → trackAt (set (b .tracks) i u) j ≡ trackAt (b .tracks) j
       there j n = getD-set-other (b .tracks) i j u noTrack n
@@ -139,103 +129,97 @@ module _ (b : Board) (w : Whole b) where
           (λ (n : j ≡ i → ⊥). rw (there j n) (refl, refl))
           (same-or-not j i)
 
-  -- a board stays whole with a sound track in the place of a present one with the same bounds
+  -- a board stays unbroken with a sound track in the place of a present one with the same bounds
   pub put-track-whole : (i : ℕ) (u : Track) → isPresent (b .present) i ≡ true → Sound u (b .clock) →
       u .min ≡ trackAt (b .tracks) i .min → u .max ≡ trackAt (b .tracks) i .max →
-      Whole (boardWith b (set (b .tracks) i u) (b .present) (b .points) (b .held))
+      Unbroken (boardWith b (set (b .tracks) i u) (b .present) (b .points) (b .held))
   put-track-whole i u h sound low high =
-      placed i u (b .present) (present-small (b .present) i h) sound (λ j k n. k) (λ j k. k) (λ _. (low, high))
+      placed i u (b .present) (present-small (b .present) i h) (w .shape .present) sound (λ j k n. k) (λ j k. k) (λ _. (low, high))
 
-  -- a board stays whole with any number of records held
-  pub held-whole : (held : ℕ) → Whole (boardWith b (b .tracks) (b .present) (b .points) held)
+  -- a board stays unbroken with any number of records held
+  pub held-whole : (held : ℕ) → Unbroken (boardWith b (b .tracks) (b .present) (b .points) held)
   held-whole held = record {
-    shaped = record { tracks = w .shaped .tracks; keys = w .shaped .keys; infos = w .shaped .infos };
-    unbroken = record {
-      clock = w .unbroken .clock;
-      tracks = w .unbroken .tracks;
-      count = w .unbroken .count;
-      order = w .unbroken .order;
-      points = w .unbroken .points;
-    };
+    shape = record { tracks = w .shape .tracks; present = w .shape .present; keys = w .shape .keys; infos = w .shape .infos };
+    clock = w .clock;
+    tracks = w .tracks;
+    count = w .count;
+    points = w .points;
+    order = w .order;
   }
 
   -- ---- the points
 
   sorted : Sorted (b .points)
   sorted = record {
-    most = w .unbroken .count;
-    keys-long = w .shaped .keys;
-    infos-long = w .shaped .infos;
-    ascending = w .unbroken .order;
+    most = w .count;
+    keys-long = w .shape .keys;
+    infos-long = w .shape .infos;
+    ascending = w .order;
   }
 
-  -- a board stays whole with another table of points that keep their rules
+  -- a board stays unbroken with another table of points that keep their rules
   pub put-points-whole : (t : Points) → Sorted t → EachPoint (EntryRule (b .present) (b .tracks)) t →
-      Whole (boardWith b (b .tracks) (b .present) t (b .held))
+      Unbroken (boardWith b (b .tracks) (b .present) t (b .held))
   put-points-whole t s each = record {
-    shaped = record { tracks = w .shaped .tracks; keys = s .keys-long; infos = s .infos-long };
-    unbroken = record {
-      clock = w .unbroken .clock;
-      tracks = w .unbroken .tracks;
-      count = s .most;
-      order = s .ascending;
-      points = each;
-    };
+    shape = record { tracks = w .shape .tracks; present = w .shape .present; keys = s .keys-long; infos = s .infos-long };
+    clock = w .clock;
+    tracks = w .tracks;
+    count = s .most;
+    points = each;
+    order = s .ascending;
   }
 
   -- ---- the calls
 
   -- no change of a track breaks a board
-  pub set-up-whole : (track : ℤ) (c : Change) → Whole (setUp b track c .board)
+  pub set-up-whole : (track : ℤ) (c : Change) → Unbroken (setUp b track c .board)
   set-up-whole track c =
-      set-up-ways b (λ (o : Outcome). Whole (o .board)) (λ n. w) track c
+      set-up-ways b (λ (o : Outcome). Unbroken (o .board)) (λ n. w) track c
       (λ i h.
-      let s = w .unbroken .tracks i h in
+      let s = w .tracks i h in
       let k = changed-keeps (trackAt (b .tracks) i) (s .valid) c in
       put-track-whole i (changedBy (trackAt (b .tracks) i) c .track) h (record { valid = k .valid; passes = omega arith }) (k .min) (k .max))
 
   -- no track that is added breaks a board
-  pub add-track-whole : (number min max : ℤ) → Whole (addTrack b number min max .board)
+  pub add-track-whole : (number min max : ℤ) → Unbroken (addTrack b number min max .board)
   unfolding newTrack
   add-track-whole number min max =
-      add-track-ways b (λ (o : Outcome). Whole (o .board)) (λ n. w) number min max
+      add-track-ways b (λ (o : Outcome). Unbroken (o .board)) (λ n. w) number min max
       (λ i low high l absent order last.
-      placed i (newTrack low high) (b .present + 2 ^ i) l (record { valid = new-valid low high order last; passes = omega arith })
+      placed i (newTrack low high) (b .present + 2 ^ i) l (with-track-fits (b .present) i (w .shape .present) l absent) (record { valid = new-valid low high order last; passes = omega arith })
       (λ j h n. sym (present-others (b .present) i l absent j n) ∙ h)
       (present-still (b .present) i l absent)
       (λ h. absurd (true≢false (sym h ∙ absent))))
 
   -- no point that is set breaks a board
-  pub set-point-whole : (track position event wait command target : ℤ) → Whole (setPoint b track position event wait command target .board)
+  pub set-point-whole : (track position event wait command target : ℤ) → Unbroken (setPoint b track position event wait command target .board)
   set-point-whole track position event wait command target =
-      set-point-ways b (λ (o : Outcome). Whole (o .board)) (λ n. w) track position event wait command target
+      set-point-ways b (λ (o : Outcome). Unbroken (o .board)) (λ n. w) track position event wait command target
       (λ p r _.
-      let v = w .unbroken .tracks (p .track) (r .track) .valid .ordered in
+      let v = w .tracks (p .track) (r .track) .valid .ordered in
       let back = point-back p (omega (arith, r .high)) (omega (arith, r .event)) (r .command) in
       put-points-whole (storedIn (b .points) (keyOf p) (infoOf p) .points) (stored-sorted (b .points) (keyOf p) sorted (infoOf p))
-      (stored-each (EntryRule (b .present) (b .tracks)) (b .points) (keyOf p) sorted (w .unbroken .points) (infoOf p) (rw back r)))
+      (stored-each (EntryRule (b .present) (b .tracks)) (b .points) (keyOf p) sorted (w .points) (infoOf p) (rw back r)))
 
   -- no point that is dropped breaks a board
-  pub drop-point-whole : (track position : ℤ) → Whole (dropPoint b track position .board)
+  pub drop-point-whole : (track position : ℤ) → Unbroken (dropPoint b track position .board)
   drop-point-whole track position =
-      drop-point-ways b (λ (o : Outcome). Whole (o .board)) (λ n. w) track position
+      drop-point-ways b (λ (o : Outcome). Unbroken (o .board)) (λ n. w) track position
       (λ k _. put-points-whole (droppedFrom (b .points) k .points) (dropped-sorted (b .points) k sorted)
-      (dropped-each (EntryRule (b .present) (b .tracks)) (b .points) k sorted (w .unbroken .points)))
+      (dropped-each (EntryRule (b .present) (b .tracks)) (b .points) k sorted (w .points)))
 
   -- clearing breaks no board
-  pub clear-whole : Whole (clearBoard b .board)
-  clear-whole = clear-ways b (λ (o : Outcome). Whole (o .board)) (λ n. w) (held-whole 0)
+  pub clear-whole : Unbroken (clearBoard b .board)
+  clear-whole = clear-ways b (λ (o : Outcome). Unbroken (o .board)) (λ n. w) (held-whole 0)
 
--- the fresh board is whole
-pub fresh-whole : Whole freshBoard
+-- the fresh board is unbroken
+pub fresh-whole : Unbroken freshBoard
 unfolding freshBoard noPoints ascendingFrom
 fresh-whole = record {
-  shaped = record { tracks = refl; keys = refl; infos = refl };
-  unbroken = record {
-    clock = omega arith;
-    tracks = λ i h. absurd (omega (arith, present-set 0 i h, zero-div (2 ^ i)));
-    count = omega arith;
-    order = refl;
-    points = λ j l. absurd (not-suc-le-zero l);
-  };
+  shape = record { tracks = refl; present = omega arith; keys = refl; infos = refl };
+  clock = omega arith;
+  tracks = λ i h. absurd (omega (arith, present-set 0 i h, zero-div (2 ^ i)));
+  count = omega arith;
+  points = λ j l. absurd (not-suc-le-zero l);
+  order = refl;
 }

@@ -17,10 +17,10 @@ use Rattle.track.proofs.Arrivals.{step-valid, step-passes, entered-valid, enter
 use Rattle.board.specs.declared.Board.{Board}
 use Rattle.board.specs.declared.log.Record.{Record}
 use Rattle.board.specs.Points.{pointMost, ascendingFrom, keysOf, infosOf, infoAt, pointOf}
-use Rattle.board.specs.Board.{eventMost, trackAt, isPresent, placeTest, deedTest, tracksTest, pointsTest, unbrokenParts, unbrokenTest}
+use Rattle.board.specs.Board.{eventMost, trackAt, isPresent, placeTest, deedTest, tracksTest, pointsTest, shapeTest, unbrokenParts, unbrokenTest}
 use Rattle.board.specs.Tick.{keep, membersFrom, members}
 use Rattle.board.specs.Tick.{waits, eventOf, commandOf, targetOf, Stage, staged, foundBy, stepRecords, reachedBy, stepMember, stepAll, playingWord, tickFrom, tickOf, InfoRule, TracksRule}
-use Rattle.board.proofs.rules.Broken.{tracks-at, tracks-are}
+use Rattle.board.proofs.rules.Broken.{tracks-at, tracks-are, shape-same}
 use Rattle.board.proofs.points.Keys.{ascending-head, ascending-rest, ascending-cons}
 use Rattle.board.proofs.rules.Present.{target-below}
 use Rattle.board.proofs.tick.Staging.{step-most, reached-most}
@@ -254,12 +254,17 @@ tick-keeps b held h l =
     let ts = b .tracks in
     let tests = pointsTest present ts 0 keys infos in
     let whole = tracksTest present ts (b .clock) in
-    let p = both (leb (b .clock .0) clockEnd) (leb (b .points .count) pointMost && (whole && tests)) h in
-    let q = both (leb (b .points .count) pointMost) (whole && tests) (p .1) in
-    let r = both whole tests (q .1) in
+    let shape = shapeTest present ts (b .points .keys) (b .points .infos) in
+    let p = both (leb (b .clock .0) clockEnd) (leb (b .points .count) pointMost && (whole && (tests && shape))) h in
+    let q = both (leb (b .points .count) pointMost) (whole && (tests && shape)) (p .1) in
+    let r = both whole (tests && shape) (q .1) in
+    let t = both tests shape (r .1) in
     let after = b .clock .0 + 1 in
     both-is (le-leb after clockEnd (omega arith))
-    (both-is (q .0) (both-is (tick-tracks keys infos after present ts (b .clock) (r .0)) (tick-points keys infos after present ts 0 keys infos ∙ r .1)))
+    (both-is (q .0)
+    (both-is (tick-tracks keys infos after present ts (b .clock) (r .0))
+    (both-is (tick-points keys infos after present ts 0 keys infos ∙ t .0)
+    (shape-same present ts (tickOf b .tracks) (b .points .keys) (b .points .infos) (tick-long keys infos after present ts) ∙ t .1))))
 
 -- ---- the infos that are found
 

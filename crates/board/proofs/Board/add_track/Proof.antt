@@ -1,11 +1,10 @@
 use Prim.Native.Nat.{_<_}
 use Rattle.board.proofs.Board.add_track.Statement.{statement}
 use Rattle.board.proofs.Board.add_track.Tie as tie
-use Rattle.board.proofs.rules.Broken.{Shaped}
+use Rattle.board.proofs.rules.Broken.{unbroken-of}
 use Rattle.board.proofs.setup.Guards.{track-added}
-use Rattle.board.proofs.rules.Passing.{length-mapped}
 use Rattle.board.specs.Setup.{addTrack, accepted}
-use Rattle.board.specs.Board.{unbrokenTest}
+use Rattle.board.specs.Board.{Unbroken, unbrokenTest}
 use Rattle.track.proofs.Numbers.{told, natural-in, natural-out, natural-take, place-out, place-take}
 use Rattle.track.proofs.Tests.{cond-yes, cond-no}
 use Rattle.track.specs.Number.{naturalOf, coordinateOf}
@@ -25,8 +24,8 @@ start c = c .before .before .before .before .before .before .before .before .bef
 whole : (c : tie.Else1) → unbrokenTest (start c .args .t1) ≡ true
 whole c = sym (c .before .unbroken .ensures) ∙ not-false _ (c .if1 .left)
 
-shape : (c : tie.Start) → Shaped (c .args .t1)
-shape c = record { tracks = search (length-mapped, needs); keys = search needs; infos = search needs }
+kept : (c : tie.Else1) → Unbroken (start c .args .t1)
+kept c = unbroken-of _ (whole c)
 
 abbrev at : ℤ → Natural
 at z = naturalOf z 0 15
@@ -132,7 +131,7 @@ mul-fresh : tie.Need-mul-fresh
 mul-fresh c = let l = small (c .before .before .before .before .before .before .before .before .before .before .before .before .before .before .before) in omega arith
 
 element-set-from-fresh : tie.Need-element-set-from-fresh
-element-set-from-fresh c = let l = small (c .before .before .before .before .before .before .before .before .before .before .before .before .before .before .before) in let s = shape (c .before .before .before .before .before .before .before .before .before .before .before .before .before .before .before .before .before .before .before .before .before .before .before .before .before .before .before) in omega arith
+element-set-from-fresh c = let l = small (c .before .before .before .before .before .before .before .before .before .before .before .before .before .before .before) in let s = kept (c .before .before .before .before .before .before .before .before .before .before .before .before .before .before .before .before .before .before) .shape in omega arith
 
 with-track-requires : tie.Need-with-track-requires
 with-track-requires c κs = (sym (c .before .before .before .before .before .before .before .before .before .before .before .before .before .is-present .ensures) ∙ c .before .before .before .before .before .before .before .before .before .before .before .before .if2 .left, small (c .before .before .before .before .before .before .before .before .before .before .before .before .before .before .before))

@@ -1,10 +1,9 @@
 use Prim.Native.Nat.{_<_, _≤_}
 use Rattle.board.proofs.Board.point.Statement.{statement}
 use Rattle.board.proofs.Board.point.Tie as tie
-use Rattle.board.proofs.rules.Broken.{Shaped, unbroken-of, present-small}
+use Rattle.board.proofs.rules.Broken.{unbroken-of, present-small}
 use Rattle.board.proofs.rules.Present.{found-in}
 use Rattle.board.proofs.setup.Guards.{info-small, found-small, point-shown, point-absent}
-use Rattle.board.proofs.rules.Passing.{length-mapped}
 use Rattle.board.specs.Board.{foundIn, unbrokenTest, Unbroken}
 use Rattle.board.specs.Query.{pointIn}
 use Rattle.track.proofs.Numbers.{told, natural-out, natural-take, place-out, place-take, value-coordinate}
@@ -25,11 +24,8 @@ start c = c .before .before .before .before .before .before .before .before .bef
 whole : (c : tie.Else1) → unbrokenTest (start c .args .t1) ≡ true
 whole c = sym (c .before .unbroken .ensures) ∙ not-false _ (c .if1 .left)
 
-shape : (c : tie.Start) → Shaped (c .args .t1)
-shape c = record { tracks = search (length-mapped, needs); keys = search needs; infos = search needs }
-
 kept : (c : tie.Else1) → Unbroken (start c .args .t1)
-kept c = unbroken-of _ (shape (start c)) (whole c)
+kept c = unbroken-of _ (whole c)
 
 -- the track that is found
 number : (c : tie.After-i) → foundIn (start (c .before .before .before) .args .t1 .present) (start (c .before .before .before) .args .track) ≡ In (c .i .given .0 .0)
@@ -93,7 +89,7 @@ add-wanted : tie.Need-add-wanted
 add-wanted c = let l = small (c .before .before .before .before .before .before) in let m = low (c .before .before) in omega arith
 
 info-at-requires : tie.Need-info-at-requires
-info-at-requires c κs = let u = kept (c .before .before .before .before .before .before .before .before .before .before .before .before .before .before) in let s = shape (c .before .before .before .before .before .before .before .before .before .before .before .before .before .before .before .before .before .before .before .before .before .before .before) in ((omega arith, omega arith), u .order)
+info-at-requires c κs = let u = kept (c .before .before .before .before .before .before .before .before .before .before .before .before .before .before) in let s = kept (c .before .before .before .before .before .before .before .before .before .before .before .before .before .before) .shape in ((omega arith, omega arith), u .order)
 
 returns-4 : tie.Need-returns-4
 unfolding pointIn
@@ -105,7 +101,7 @@ of-requires-2 : tie.Need-of-requires-2
 of-requires-2 c κs =
     let l = small (c .before .before .before .before .before .before .before .before .before .before .before .before .before) in
     let m = low (c .before .before .before .before .before .before .before .before .before) in
-    (omega arith, found-small (c .before .info-at .ensures) (c .if2 .left) (info-small _ (shape (c .before .before .before .before .before .before .before .before .before .before .before .before .before .before .before .before .before .before .before .before .before .before .before .before .before)) (kept (c .before .before .before .before .before .before .before .before .before .before .before .before .before .before .before .before)) _))
+    (omega arith, found-small (c .before .info-at .ensures) (c .if2 .left) (info-small _ (kept (c .before .before .before .before .before .before .before .before .before .before .before .before .before .before .before .before)) _))
 
 returns-5 : tie.Need-returns-5
 unfolding pointIn

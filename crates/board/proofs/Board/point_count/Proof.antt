@@ -1,10 +1,9 @@
 use Prim.Native.Nat.{_<_}
 use Rattle.board.proofs.Board.point_count.Statement.{statement}
 use Rattle.board.proofs.Board.point_count.Tie as tie
-use Rattle.board.proofs.rules.Broken.{Shaped, unbroken-of, present-small}
+use Rattle.board.proofs.rules.Broken.{unbroken-of, present-small}
 use Rattle.board.proofs.rules.Present.{found-in}
 use Rattle.board.proofs.setup.Guards.{counted}
-use Rattle.board.proofs.rules.Passing.{length-mapped}
 use Rattle.board.specs.Board.{foundIn, unbrokenTest, Unbroken}
 use Rattle.board.specs.Query.{countIn}
 use Rattle.board.specs.declared.query.CountRead.the-variants.{Count}
@@ -26,11 +25,8 @@ start c = c .before .before .before .before .before .before .before .before .bef
 whole : (c : tie.Else1) → unbrokenTest (start c .args .t1) ≡ true
 whole c = sym (c .before .unbroken .ensures) ∙ not-false _ (c .if1 .left)
 
-shape : (c : tie.Start) → Shaped (c .args .t1)
-shape c = record { tracks = search (length-mapped, needs); keys = search needs; infos = search needs }
-
 kept : (c : tie.Else1) → Unbroken (start c .args .t1)
-kept c = unbroken-of _ (shape (start c)) (whole c)
+kept c = unbroken-of _ (whole c)
 
 -- the track that is found
 number : (c : tie.After-i) → foundIn (start (c .before .before .before) .args .t1 .present) (start (c .before .before .before) .args .track) ≡ In (c .i .given .0 .0)
@@ -82,14 +78,14 @@ add-low : tie.Need-add-low
 add-low c = let l = small (c .before .before .before .before) in let m = clamped-most (c .before .before .before .before .before .before .before .before .before .before .before .before .before .before .before .before .args .from) in let e = c .before .clamped2 .ensures ∙ ap clampedOf (toZ-ofZ (c .before .before .before .before .before .before .before .before .before .before .before .before .before .before .before .before .fits .from)) in omega (arith, c .before2 .ensures)
 
 count-between-requires : tie.Need-count-between-requires
-count-between-requires c κs = let u = kept (c .before .before .before .before .before .before .before .before .before .before) in let s = shape (c .before .before .before .before .before .before .before .before .before .before .before .before .before .before .before .before .before .before .before) in (omega arith, u .order)
+count-between-requires c κs = let u = kept (c .before .before .before .before .before .before .before .before .before .before) in let s = kept (c .before .before .before .before .before .before .before .before .before .before) .shape in (omega arith, u .order)
 
 returns-3 : tie.Need-returns-3
 unfolding countIn
 returns-3 c =
     cond-yes _ _ (whole (c .before .before .before .before .before .before .before .before .before .before .before))
     (natural-take _ _ _ (number (c .before .before .before .before .before .before .before .before))
-    (ap Count (counted _ (shape (c .before .before .before .before .before .before .before .before .before .before .before .before .before .before .before .before .before .before .before .before)) (kept (c .before .before .before .before .before .before .before .before .before .before .before)) _ _ _ (c .before .before .before .before .before .clamped2 .ensures ∙ ap clampedOf (toZ-ofZ (c .before .before .before .before .before .before .before .before .before .before .before .before .before .before .before .before .before .before .before .before .fits .from))) (c .before .before .before .before .before2 .ensures)
+    (ap Count (counted _ (kept (c .before .before .before .before .before .before .before .before .before .before .before)) _ _ _ (c .before .before .before .before .before .clamped2 .ensures ∙ ap clampedOf (toZ-ofZ (c .before .before .before .before .before .before .before .before .before .before .before .before .before .before .before .before .before .before .before .before .fits .from))) (c .before .before .before .before .before2 .ensures)
     (c .before .before .before .before .before .before .clamped .ensures ∙ ap clampedOf (toZ-ofZ (c .before .before .before .before .before .before .before .before .before .before .before .before .before .before .before .before .before .before .before .before .fits .to))) (c .count-between .ensures))))
 
 pub point-count-spec : {M : Type 1} → statement M

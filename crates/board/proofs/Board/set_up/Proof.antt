@@ -1,9 +1,8 @@
 use Prim.Native.Nat.{_<_}
 use Rattle.board.proofs.Board.set_up.Statement.{statement}
 use Rattle.board.proofs.Board.set_up.Tie as tie
-use Rattle.board.proofs.rules.Broken.{Shaped, unbroken-of, present-small}
+use Rattle.board.proofs.rules.Broken.{unbroken-of, present-small}
 use Rattle.board.proofs.rules.Present.{found-in}
-use Rattle.board.proofs.rules.Passing.{length-mapped}
 use Rattle.board.specs.Board.{foundIn, unbrokenTest, Unbroken}
 use Rattle.board.specs.Setup.{putTrack, setUp}
 use Rattle.track.proofs.Numbers.{told, natural-out, natural-take}
@@ -22,11 +21,8 @@ start c = c .before .before .before .before .before .before .before .before .bef
 whole : (c : tie.Else1) → unbrokenTest (start c .args .t1) ≡ true
 whole c = sym (c .before .unbroken .ensures) ∙ not-false _ (c .if1 .left)
 
-shape : (c : tie.Start) → Shaped (c .args .t1)
-shape c = record { tracks = search (length-mapped, needs); keys = search needs; infos = search needs }
-
 kept : (c : tie.Else1) → Unbroken (start c .args .t1)
-kept c = unbroken-of _ (shape (start c)) (whole c)
+kept c = unbroken-of _ (whole c)
 
 -- the track that is found
 number : (c : tie.After-i) → foundIn (start (c .before .before .before) .args .t1 .present) (start (c .before .before .before) .args .track) ≡ In (c .i .given .0 .0)
@@ -72,7 +68,7 @@ mul-t : tie.Need-mul-t
 mul-t c = let l = small (c .before) in search needs
 
 array-copy-out-t : tie.Need-array-copy-out-t
-array-copy-out-t c = let l = small (c .before) in let s = shape (c .before .before .before .before .before .before .before .before .before .before .before .before .before) in omega arith
+array-copy-out-t c = let l = small (c .before) in let s = kept (c .before .before .before .before) .shape in omega arith
 
 changed-requires : tie.Need-changed-requires
 changed-requires c κs = kept (c .before .before .before .before .before) .tracks _ (found-in _ _ (number (c .before .before))) .valid
@@ -81,7 +77,7 @@ mul-after : tie.Need-mul-after
 mul-after c = let l = small (c .before .before .before .before) in search needs
 
 element-set-from-after : tie.Need-element-set-from-after
-element-set-from-after c = let l = small (c .before .before .before .before) in let s = shape (c .before .before .before .before .before .before .before .before .before .before .before .before .before .before .before .before) in omega arith
+element-set-from-after c = let l = small (c .before .before .before .before) in let s = kept (c .before .before .before .before .before .before .before) .shape in omega arith
 
 returns-3 : tie.Need-returns-3
 unfolding setUp

@@ -1,10 +1,9 @@
 use Prim.Native.Nat.{_<_}
 use Rattle.board.proofs.Board.track.Statement.{statement}
 use Rattle.board.proofs.Board.track.Tie as tie
-use Rattle.board.proofs.rules.Broken.{Shaped, present-small}
+use Rattle.board.proofs.rules.Broken.{unbroken-of, present-small}
 use Rattle.board.proofs.rules.Present.{found-in}
-use Rattle.board.proofs.rules.Passing.{length-mapped}
-use Rattle.board.specs.Board.{foundIn, unbrokenTest}
+use Rattle.board.specs.Board.{Unbroken, foundIn, unbrokenTest}
 use Rattle.board.specs.Query.{trackOf}
 use Rattle.track.proofs.Numbers.{told, natural-out, natural-take}
 use Rattle.track.proofs.Tests.{cond-yes, cond-no}
@@ -24,8 +23,8 @@ start c = c .before .before .before .before .before .before .before .before .bef
 whole : (c : tie.Else1) → unbrokenTest (start c .args .t1) ≡ true
 whole c = sym (c .before .unbroken .ensures) ∙ not-false _ (c .if1 .left)
 
-shape : (c : tie.Start) → Shaped (c .args .t1)
-shape c = record { tracks = search (length-mapped, needs); keys = search needs; infos = search needs }
+kept : (c : tie.Else1) → Unbroken (start c .args .t1)
+kept c = unbroken-of _ (whole c)
 
 -- the track that is found
 number : (c : tie.After-i) → foundIn (start (c .before .before .before) .args .t1 .present) (start (c .before .before .before) .args .track) ≡ In (c .i .given .0 .0)
@@ -71,7 +70,7 @@ mul-read : tie.Need-mul-read
 mul-read c = let l = small (c .before) in search needs
 
 array-copy-out-read : tie.Need-array-copy-out-read
-array-copy-out-read c = let l = small (c .before) in let s = shape (c .before .before .before .before .before .before .before .before .before .before .before .before .before .before) in omega arith
+array-copy-out-read c = let l = small (c .before) in let s = kept (c .before .before .before .before) .shape in omega arith
 
 returns-3 : tie.Need-returns-3
 unfolding trackOf

@@ -1,5 +1,5 @@
 use Prim.Native.Nat.{ℕ, _+_}
-use Rattle.board.proofs.advance.run.Proof.Standing.{Inv-loop, μ-loop, Inv-ticks, μ-ticks, leapt-all, board, bits, shape, shaped, start, whole, able, turn, fewer, leapt, ahead, whole′, short, longest, walked, leap-at, entry, member, stepping, done, few, full}
+use Rattle.board.proofs.advance.run.Proof.Standing.{Inv-loop, μ-loop, Inv-ticks, μ-ticks, leapt-all, board, bits, shape, start, whole, able, turn, fewer, leapt, ahead, whole′, short, longest, walked, leap-at, entry, member, stepping, done, few, full}
 use Rattle.board.proofs.advance.Cost.{leap-less, walk-less}
 use Rattle.board.proofs.advance.Advancing.{going-start, going-ends, going-done, boardAt, whole-points}
 use Rattle.board.proofs.quiet.Leaps.{unbroken-able, unbroken-telling}
@@ -38,13 +38,9 @@ quiet-requires : tie.Need-quiet-requires Inv-loop μ-loop Inv-ticks μ-ticks
 quiet-requires c κs =
     let t = c .before .before .before in
     let u = whole t in
-    let s = shape (start t) in
-    let g = t .before .ticks .inv .0 in (
+    let s = u .shape in (
       able t,
-      (
-        (omega (arith, u .count, s .keys), omega (arith, u .count, s .infos)),
-        (u .order, unbroken-telling _ (record { tracks = g .tracks-long; keys = s .keys; infos = s .infos }) u),
-      ),
+      ((omega (arith, u .count, s .keys), omega (arith, u .count, s .infos)), (u .order, unbroken-telling _ u)),
     )
 
 smaller-requires-2 : tie.Need-smaller-requires-2 Inv-loop μ-loop Inv-ticks μ-ticks
@@ -100,9 +96,7 @@ loop-holds : tie.Need-loop-holds Inv-loop μ-loop Inv-ticks μ-ticks
 loop-holds c =
     let j = c .before .before .before in
     let k = turn j .before .ticks in
-    let s = shape (start (turn j)) in
-    turning-start _ _ _ _ _ _ _ (k .inv .1) (k .inv .0 .tracks-long) (able (turn j))
-    (unbroken-able _ (record { tracks = ahead j .tracks-long; keys = s .keys; infos = s .infos }) (whole′ j)) (λ i h. whole′ j .tracks i h .valid) (k .inv .2) (k .inv .3)
+    turning-start _ _ _ _ _ _ _ (k .inv .1) (k .inv .0 .tracks-long) (able (turn j)) (unbroken-able _ (whole′ j)) (λ i h. whole′ j .tracks i h .valid) (k .inv .2) (k .inv .3)
 
 cast-i : tie.Need-cast-i Inv-loop μ-loop Inv-ticks μ-ticks
 cast-i c = record { fits = (let l = member c .inside in omega arith) }
@@ -262,12 +256,11 @@ ticks-less-2 : tie.Need-ticks-less-2 Inv-loop μ-loop Inv-ticks μ-ticks
 ticks-less-2 c =
     let j = c .before .before .before .before .before .before .before .before .before .before .before .before .before in
     let k = turn j .before .ticks in
-    let s = shaped (turn j) in
     let d = done (c .before .before .before .before .before .before .before) in
     let n = short (c .before .before .before .before .before .before .before .before .before .before .before .before) in
     let e = j .before .smaller .ensures in
     walk-less _ _ _ (k .inv .0) (walked c) (turn j .ticks-test .taken) (omega (arith, j .before .before .if1 .left, whole (turn j) .clock)) (j .if2 .calm)
-    (unbroken-able _ s (whole (turn j))) (unbroken-telling _ s (whole (turn j))) (k .look) refl (d .tracks) (d .count) (omega arith)
+    (unbroken-able _ (whole (turn j))) (unbroken-telling _ (whole (turn j))) (k .look) refl (d .tracks) (d .count) (omega arith)
     (longest (c .before .before .before .before .before .before .before .before .before .before .before .before))
 
 ticks-again-2 : tie.Need-ticks-again-2 Inv-loop μ-loop Inv-ticks μ-ticks

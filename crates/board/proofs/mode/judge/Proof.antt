@@ -1,16 +1,16 @@
 use Prim.Native.Nat.{_<_, _≤_}
 use Rattle.board.proofs.mode.judge.Statement.{statement}
 use Rattle.board.proofs.mode.judge.Tie as tie
-use Rattle.board.proofs.rules.Broken.{Shaped, unbroken-of, present-small}
+use Rattle.board.proofs.rules.Broken.{unbroken-of, present-small}
 use Rattle.board.proofs.tick.Commands.{Goes?, grid-goes}
 use Rattle.board.proofs.rules.Present.{found-in}
-use Rattle.board.proofs.rules.Passing.{length-mapped}
 use Rattle.board.proofs.mode.Rulings.{follows-declined, follows-silent, follows-noted, follows-full, changed-with, unmoved}
 use Rattle.board.specs.declared.Board.{Board}
 use Rattle.board.specs.Board.{foundIn, unbrokenTest, Unbroken, trackAt, boardOf}
 use Rattle.board.specs.declared.mode.Ruled.{Ruled}
 use Rattle.board.specs.Mode.{decided, changesTo, modeRuling}
 use Rattle.track.proofs.Numbers.{told, natural-out, natural-take}
+use Rattle.board.proofs.rules.Passing.{length-mapped}
 use Rattle.track.proofs.Tests.{cond-yes, cond-no}
 use Rattle.track.specs.Grid.{gridOf}
 use Rattle.track.specs.declared.grid.Decision.the-variants.{Goes}
@@ -22,12 +22,9 @@ use mathlib.Core.Bool.{true}
 use mathlib.Core.Path.{_≡_, _∙_, sym, ap, refl, subst}
 use native.Mathlib.Omega.{arith}
 
--- the board of the parts, and its shape
+-- the board of the parts
 abbrev board : tie.Start → Board
 board s = boardOf (s .args .t1) (s .args .present) (s .args .keys .now) (s .args .infos .now) (s .args .n) (s .args .clock .0) (s .args .held)
-
-shape : (s : tie.Start) → Shaped (board s)
-shape s = record { tracks = search (length-mapped, needs); keys = s .pre .0; infos = s .pre .1 }
 
 abbrev start : tie.Else1 → tie.Start
 start c = c .before .before .before .before .before .before
@@ -37,7 +34,7 @@ whole : (c : tie.Else1) → unbrokenTest (board (start c)) ≡ true
 whole c = sym (c .before .unbroken .ensures) ∙ not-false _ (c .if1 .left)
 
 kept : (c : tie.Else1) → Unbroken (board (start c))
-kept c = unbroken-of _ (shape (start c)) (whole c)
+kept c = unbroken-of _ (whole c)
 
 abbrev fitting : tie.After-i → tie.Else1
 fitting c = c .before .before .before .before
@@ -75,7 +72,7 @@ ruling c =
     (natural-take _ _ _ (number (entry c)) (ap (decided _ _ _) (sym (goes c)))))
 
 array-copy-out-first : tie.Need-array-copy-out-first
-array-copy-out-first c = let s = shape (c .before .before .before) in omega arith
+array-copy-out-first c = let l : length (c .before .before .before .args .t1) ≡ 16 = search (length-mapped, needs) in omega arith
 
 unbroken-requires : tie.Need-unbroken-requires
 unbroken-requires c κs = let s = c .before .before .before .before .pre in (omega (arith, s .0), omega (arith, s .1))
@@ -133,7 +130,7 @@ mul-t : tie.Need-mul-t
 mul-t c = let l = small (c .before) in search needs
 
 array-copy-out-t : tie.Need-array-copy-out-t
-array-copy-out-t c = let l = small (c .before) in let s = shape (c .before .before .before .before .before .before .before .before .before .before .before) in omega arith
+array-copy-out-t c = let l = small (c .before) in let s = kept (c .before .before .before .before .before) .shape in omega arith
 
 grid-requires : tie.Need-grid-requires
 grid-requires c κs = search needs

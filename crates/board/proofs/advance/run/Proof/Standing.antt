@@ -5,10 +5,9 @@ use Rattle.board.specs.Call.{world}
 use Rattle.board.specs.Advance.{Ended, turnsLeft}
 use Rattle.board.specs.declared.call.Advanced.the-variants.{Done, LogFull}
 use Rattle.board.proofs.tick.Bits.{Lowest}
-use Rattle.board.proofs.rules.Broken.{Shaped, unbroken-of}
+use Rattle.board.proofs.rules.Broken.{unbroken-of}
 use Rattle.board.proofs.quiet.Leaps.{unbroken-able, leap-tracks-word}
 use Rattle.board.proofs.advance.Turning.{Turning, turning-member, turning-leapt, turning-stirred, turning-still, Ticked}
-use Rattle.board.proofs.rules.Passing.{length-mapped}
 use Rattle.board.proofs.tick.Steps.{tick-few, tick-long}
 use Rattle.board.proofs.tick.Staging.{length-log}
 use Rattle.board.proofs.log.Words.{length-write}
@@ -17,7 +16,7 @@ use Rattle.board.proofs.advance.run.Tie as tie
 use Rattle.board.specs.Points.{keysOf, infosOf}
 use Rattle.board.specs.Quiet.{Each, Calm, Fewest, Able, Leapable, leapTracks, leapInto}
 use Rattle.board.specs.declared.Board.{Board}
-use Rattle.board.specs.Board.{Unbroken, trackAt, boardOf}
+use Rattle.board.specs.Board.{Unbroken, trackAt, boardOf, Shaped}
 use Rattle.board.specs.Tick.{Stage, playingWord, members}
 use Rattle.track.specs.declared.Track.{Track}
 use Rattle.track.specs.Rule.{clockEnd}
@@ -53,7 +52,7 @@ abbrev pub board : tie.Start Inv-loop μ-loop Inv-ticks μ-ticks → Board
 board s = boardOf (s .args .given) (s .args .present) (s .args .keys .now) (s .args .infos .now) (s .args .n) (s .args .from .0) (s .args .kept)
 
 pub shape : (s : tie.Start Inv-loop μ-loop Inv-ticks μ-ticks) → Shaped (board s)
-shape s = record { tracks = search (length-mapped, needs); keys = s .pre .0 .0; infos = s .pre .0 .1 }
+shape s = unbroken-of _ (s .pre .1 .0) .shape
 
 -- a count of ticks has 32 bits
 pub bits : (s : tie.Start Inv-loop μ-loop Inv-ticks μ-ticks) → s .args .count .0 < 4294967296
@@ -64,20 +63,17 @@ bits s = search needs
 abbrev pub start : tie.In-ticks Inv-loop μ-loop Inv-ticks μ-ticks → tie.Start Inv-loop μ-loop Inv-ticks μ-ticks
 start c = c .before .before .before .before .before .before
 
--- the board as it stands, its shape and its rules
+-- the board as it stands, and its rules
 abbrev pub stands : tie.In-ticks Inv-loop μ-loop Inv-ticks μ-ticks → Board
 stands c = let k = c .before .ticks in boardAt (board (start c)) (k .tracks) (k .clock) (k .held)
 
-pub shaped : (c : tie.In-ticks Inv-loop μ-loop Inv-ticks μ-ticks) → Shaped (stands c)
-shaped c = let s = shape (start c) in record { tracks = c .before .ticks .inv .0 .tracks-long; keys = s .keys; infos = s .infos }
-
 pub whole : (c : tie.In-ticks Inv-loop μ-loop Inv-ticks μ-ticks) → Unbroken (stands c)
-whole c = unbroken-of _ (shaped c) (c .before .ticks .inv .0 .whole)
+whole c = unbroken-of _ (c .before .ticks .inv .0 .whole)
 
 -- the playing tracks can be leapt
 pub able : (c : tie.In-ticks Inv-loop μ-loop Inv-ticks μ-ticks) → Leapable (c .before .ticks .tracks) (members (c .before .ticks .word))
 able c =
-    subst (λ (w : ℕ). Leapable (c .before .ticks .tracks) (members w)) (sym (c .before .ticks .inv .1)) (unbroken-able _ (shaped c) (whole c))
+    subst (λ (w : ℕ). Leapable (c .before .ticks .tracks) (members w)) (sym (c .before .ticks .inv .1)) (unbroken-able _ (whole c))
 
 abbrev pub turn : tie.Joined2 Inv-loop μ-loop Inv-ticks μ-ticks → tie.In-ticks Inv-loop μ-loop Inv-ticks μ-ticks
 turn c = c .before .before .before
@@ -112,9 +108,7 @@ ahead c =
 
 -- the board after the leap keeps the rules
 pub whole′ : (c : tie.Joined2 Inv-loop μ-loop Inv-ticks μ-ticks) → Unbroken (boardAt (board (start (turn c))) (leapt c) (turn c .before .ticks .clock + c .if2 .calm) (turn c .before .ticks .held))
-whole′ c =
-    let s = shape (start (turn c)) in
-    unbroken-of _ (record { tracks = ahead c .tracks-long; keys = s .keys; infos = s .infos }) (ahead c .whole)
+whole′ c = unbroken-of _ (ahead c .whole)
 
 -- where all that can be taken was quiet: where the loop stands after the leap
 pub leapt-all : (c : tie.After-leapt Inv-loop μ-loop Inv-ticks μ-ticks) →
