@@ -6,9 +6,9 @@ use lib.Dec.{eqb}
 use Rattle.track.specs.Walk.{arrival}
 use Rattle.board.specs.declared.Board.{Board}
 use Rattle.board.specs.declared.log.Record.{Record}
-use Rattle.board.specs.Points.{key, keysOf, infosOf, infoAt}
+use Rattle.board.specs.Points.{key, keysOf, infosOf, infoAt, eventOf, commandOf, targetOf}
 use Rattle.board.specs.Board.{trackAt}
-use Rattle.board.specs.Tick.{members, eventOf, commandOf, targetOf, recordOf, playingWord}
+use Rattle.board.specs.Tick.{members, recordOf, playingWord}
 
 -- an arrival: the track, where, and the info of its point there
 pub record Arrival : Type 0 where

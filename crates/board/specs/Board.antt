@@ -56,6 +56,7 @@ pub record PointRule (present : ℕ) (ts : List Track) (p : Point) : Type 0 wher
   pub low : trackAt ts (p .track) .min .0 ≤ p .position .0
   pub high : p .position .0 ≤ trackAt ts (p .track) .max .0
   pub event : (1 ≤ p .event) × (p .event ≤ eventMost)
+  pub wait : p .wait ≤ 1
   pub command : p .command ≤ 4
   pub target : cond (eqb (p .command) 0) (eqb (p .target) 0) (isPresent present (p .target)) ≡ true
 
@@ -97,7 +98,8 @@ unfoldable pub deedTest : ℕ → Point → Bool
 deedTest present p =
     leb 1 (p .event)
     && (leb (p .event) eventMost
-    && (leb (p .command) 4 && cond (eqb (p .command) 0) (eqb (p .target) 0) (isPresent present (p .target))))
+    && (leb (p .wait) 1
+    && (leb (p .command) 4 && cond (eqb (p .command) 0) (eqb (p .target) 0) (isPresent present (p .target)))))
 
 -- the points of two rows, every key at least lo
 unfoldable pub pointsTest : ℕ → List Track → ℕ → List ℕ → List ℕ → Bool

@@ -21,27 +21,51 @@ stride = 2097152
 abbrev pub key : ℕ → ℕ → ℕ
 key track l = track * stride + l
 
--- What else a point has is one number, its info: event + 65,536 wait + 131,072 command + 1,048,576 target. An info is never
--- 0, so that 0 says that there is no point.
-abbrev pub bit : Bool → ℕ
-bit true = 1
-bit false = 0
-
 unfoldable pub keyOf : Point → ℕ
 keyOf p = key (p .track) (p .position .0)
 
-unfoldable pub infoOf : Point → ℕ
-infoOf p = p .event + 65536 * bit (p .wait) + 131072 * p .command + 1048576 * p .target
+-- What else a point has is one number, its info: event + waitUnit wait + commandUnit command + targetUnit target. An info is never
+-- 0, so that 0 says that there is no point.
+abbrev pub waitUnit : ℕ
+waitUnit = 65536
 
+abbrev pub commandUnit : ℕ
+commandUnit = 131072
+
+abbrev pub targetUnit : ℕ
+targetUnit = 1048576
+
+unfoldable pub infoOf : Point → ℕ
+infoOf p = p .event + waitUnit * p .wait + commandUnit * p .command + targetUnit * p .target
+
+-- ---- what an info says
+
+abbrev pub eventOf : ℕ → ℕ
+eventOf d = d % waitUnit
+
+abbrev pub waitOf : ℕ → ℕ
+waitOf d = d / waitUnit % 2
+
+abbrev pub commandOf : ℕ → ℕ
+commandOf d = d / commandUnit % 8
+
+abbrev pub targetOf : ℕ → ℕ
+targetOf d = d / targetUnit
+
+-- the wait flag is 1
+unfoldable pub waits : ℕ → Bool
+waits d = eqb (waitOf d) 1
+
+-- the point of a key and an info
 unfoldable pub pointOf : ℕ → ℕ → Point
 pointOf k d =
     record {
       track = k / stride;
       position = record { 0 = k % stride };
-      event = d % 65536;
-      wait = eqb (d / 65536 % 2) 1;
-      command = d / 131072 % 8;
-      target = d / 1048576;
+      event = eventOf d;
+      wait = waitOf d;
+      command = commandOf d;
+      target = targetOf d;
     }
 
 -- ---- rows

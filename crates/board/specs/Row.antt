@@ -9,7 +9,6 @@ use lib.ListN.{length, drop, getD, replicate}
 use Rattle.track.specs.declared.Track.{Track}
 use Rattle.track.specs.declared.setup.Change.the-variants as change
 use Rattle.board.specs.declared.points.Point.{Point}
-use Rattle.board.specs.Points.{bit}
 use Rattle.board.specs.declared.Board.{Board}
 use Rattle.board.specs.declared.call.Call.{Call}
 use Rattle.board.specs.declared.call.Call.the-variants as call
@@ -103,7 +102,7 @@ trackNumbers t =
     ∷ t .actions
 
 abbrev pub pointNumbers : Point → List ℕ
-pointNumbers p = p .track ∷ p .position .0 ∷ p .event ∷ bit (p .wait) ∷ p .command ∷ p .target ∷ []
+pointNumbers p = p .track ∷ p .position .0 ∷ p .event ∷ p .wait ∷ p .command ∷ p .target ∷ []
 
 -- kinds: 0 accepted, 1 refused, 2 Done, 3 LogFull, 4 ClockEnd, 5 clock and held, 6 a track, 7 a point, 8 a count
 abbrev pub numbersOf : Reply → List ℕ

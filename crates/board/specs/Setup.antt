@@ -69,7 +69,7 @@ addTrack b number min max =
 
 -- ---- point, drop point
 
-abbrev pub pointWith : ℕ → Coordinate → ℕ → Bool → ℕ → ℕ → Point
+abbrev pub pointWith : ℕ → Coordinate → ℕ → ℕ → ℕ → ℕ → Point
 pointWith track position event wait command target =
     record { track = track; position = position; event = event; wait = wait; command = command; target = target }
 
@@ -84,7 +84,7 @@ drawnFrom present i owner position event wait command target =
     (λ e. onNatural (naturalOf wait 0 1)
     (λ w. onNatural (naturalOf command 0 4)
     (λ c. onNatural (naturalOf target 0 15)
-    (λ g. ableOnly present (pointWith i l e (eqb w 1) c g)) drawn.Bad) drawn.Bad) drawn.Bad) drawn.Bad) drawn.Bad
+    (λ g. ableOnly present (pointWith i l e w c g)) drawn.Bad) drawn.Bad) drawn.Bad) drawn.Bad) drawn.Bad
 
 -- 5 a 257th point (replacing one is no new point)
 abbrev pub putPoints : Board → ℕ → Stored → Outcome

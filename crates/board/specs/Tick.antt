@@ -13,7 +13,7 @@ use Rattle.track.specs.Grid.{gridOf}
 use Rattle.track.specs.Walk.{arrival, passesAt, step}
 use Rattle.board.specs.declared.Board.{Board}
 use Rattle.board.specs.declared.log.Record.{Record}
-use Rattle.board.specs.Points.{key, keysOf, infosOf, infoAt}
+use Rattle.board.specs.Points.{key, keysOf, infosOf, infoAt, eventOf, commandOf, targetOf, waits}
 use Rattle.board.specs.Board.{trackCount, eventMost, trackAt, isPresent}
 
 -- ---- the members of a word
@@ -31,19 +31,6 @@ membersFrom (suc k) t word = keep (word % 2) t (membersFrom k (suc t) (word / 2)
 -- the members of a 16-bit word, lowest first
 abbrev pub members : ℕ → List ℕ
 members word = membersFrom 16 0 word
-
--- ---- what a point's info says; 0 is no point
-abbrev pub eventOf : ℕ → ℕ
-eventOf d = d % 65536
-
-unfoldable pub waits : ℕ → Bool
-waits d = eqb (d / 65536 % 2) 1
-
-abbrev pub commandOf : ℕ → ℕ
-commandOf d = d / 131072 % 8
-
-abbrev pub targetOf : ℕ → ℕ
-targetOf d = d / 1048576
 
 -- ---- records (01, "Log record")
 abbrev pub recordOf : ℕ → ℕ → ℕ → ℕ → ℕ → ℕ → ℕ → Record

@@ -13,7 +13,7 @@ pub struct Point {
     pub track: u8,
     pub position: Coordinate,
     pub event: u16,
-    pub wait: bool,
+    pub wait: u8,
     pub command: u8,
     pub target: u8,
 }
@@ -285,15 +285,12 @@ impl Point {
 
     // What else a point has, as one number.
     pub(crate) fn info(self) -> u32
-        requires { ⌜ (self .command ≤ 4) × (self .target < 16) ⌝ }
+        requires { ⌜ (self .wait ≤ 1) × (self .command ≤ 4) × (self .target < 16) ⌝ }
         ensures { λ r. ⌜ r ≡ infoOf self ⌝ }
     {
+        let flag = self.wait as u32 * Point::WAIT;
         let rest = self.command as u32 * Point::COMMAND + self.target as u32 * Point::TARGET;
-        if self.wait {
-            self.event as u32 + Point::WAIT + rest
-        } else {
-            self.event as u32 + rest
-        }
+        self.event as u32 + flag + rest
     }
 
     // A point from its two numbers.
@@ -305,7 +302,7 @@ impl Point {
             track: (wanted / Points::STRIDE) as u8,
             position: Coordinate(wanted % Points::STRIDE),
             event: (info % Point::WAIT) as u16,
-            wait: info / Point::WAIT % 2 == 1,
+            wait: (info / Point::WAIT % 2) as u8,
             command: (info / Point::COMMAND % 8) as u8,
             target: (info / Point::TARGET) as u8,
         }

@@ -15,7 +15,6 @@ ghost use Prim.Native.Nat.{_+_, _*_, _≤_};
 ghost use lib.ListN.{length, drop, take};
 ghost use Rattle.board.specs.Row.{codedAs, callOf, callAt, padded, trackNumbers, pointNumbers, numbersOf, rowDoes, RowDone};
 ghost use mathlib.Core.List.{_∷_, [], _++_};
-ghost use Rattle.board.specs.Points.{bit};
 ghost use Rattle.board.specs.Log.{writeAt};
 ghost use Rattle.board.specs.Call.{replyOf, Gives, world, refused};
 
@@ -90,12 +89,6 @@ fn wide(x: u8) -> u64
     x as u64
 }
 
-fn bit(on: bool) -> u64
-    ensures { λ r. ⌜ r ≡ bit on ⌝ }
-{
-    if on { 1 } else { 0 }
-}
-
 // A reply of a kind and at most two numbers.
 fn short_row(kind: u64, a: u64, b: u64) -> [u64; REPLY_WIDTH]
     ensures { λ r. ⌜ r ≡ padded (kind ∷ a ∷ b ∷ []) ⌝ }
@@ -115,7 +108,7 @@ fn point_row(p: Point) -> [u64; REPLY_WIDTH]
     row[1] = p.track as u64;
     row[2] = p.position.0 as u64;
     row[3] = p.event as u64;
-    row[4] = bit(p.wait);
+    row[4] = p.wait as u64;
     row[5] = p.command as u64;
     row[6] = p.target as u64;
     row

@@ -91,11 +91,15 @@ pub(crate) fn able(present: u16, p: Point) -> bool
     ensures { λ r. ⌜ r ≡ deedTest present p ⌝ }
 {
     let event = p.event;
+    let wait = p.wait;
     let command = p.command;
     if event == 0 {
         return false;
     }
     if Point::EVENT < event {
+        return false;
+    }
+    if 1 < wait {
         return false;
     }
     if 4 < command {

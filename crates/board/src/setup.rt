@@ -83,7 +83,7 @@ fn draw(
         track,
         position: l,
         event: e as u16,
-        wait: w == 1,
+        wait: w as u8,
         command: c as u8,
         target: g as u8,
     };

@@ -18,7 +18,8 @@ ghost use Rattle.track.specs.Rule.{Valid, clockEnd};
 ghost use Rattle.track.specs.Grid.{gridOf};
 ghost use Rattle.track.specs.Walk.{arrival, step};
 ghost use Rattle.board.specs.Log.{writeAt, logBytes};
-ghost use Rattle.board.specs.Tick.{waits, pointRecords, changeRecords, stepRecords, commandRecords, commanded, commandOf, obeyed, obeyedRecords, runAll, staged, reachedBy, stirring, playBit, playingWord, InfoRule, TracksRule};
+ghost use Rattle.board.specs.Tick.{pointRecords, changeRecords, stepRecords, commandRecords, commanded, obeyed, obeyedRecords, runAll, staged, reachedBy, stirring, playBit, playingWord, InfoRule, TracksRule};
+ghost use Rattle.board.specs.Points.{waits, commandOf};
 
 // A track after its step or a command, and the number of records staged.
 pub struct Staged {

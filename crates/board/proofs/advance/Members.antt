@@ -13,9 +13,9 @@ use Rattle.track.specs.Walk.{arrival, step}
 use Rattle.board.specs.declared.Board.{Board}
 use Rattle.board.specs.declared.log.Record.{Record}
 use Rattle.board.specs.Log.{writeAt, recordWidth, logBytes}
-use Rattle.board.specs.Points.{ascendingFrom, key, keysOf, infosOf}
+use Rattle.board.specs.Points.{ascendingFrom, key, keysOf, infosOf, waits, commandOf, targetOf}
 use Rattle.board.specs.Board.{noTrack, trackAt, isPresent, pointsTest}
-use Rattle.board.specs.Tick.{Stage, staged, waits, stepRecords, reachedBy, foundBy, stepMember, stepAll, runAll, tickFrom, playingWord, commandOf, targetOf, InfoRule, TracksRule}
+use Rattle.board.specs.Tick.{Stage, staged, stepRecords, reachedBy, foundBy, stepMember, stepAll, runAll, tickFrom, playingWord, InfoRule, TracksRule}
 use Rattle.board.specs.Tick.{members}
 use Rattle.board.specs.Quiet.{Each, Able, Leapable}
 use Rattle.board.proofs.points.Keys.{ascending-head, ascending-rest}

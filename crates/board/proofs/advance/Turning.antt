@@ -16,9 +16,9 @@ use Rattle.track.specs.Walk.{step}
 use Rattle.track.specs.Leap.{leap}
 use Rattle.board.specs.declared.Board.{Board}
 use Rattle.board.specs.Log.{writeAt, recordWidth, logBytes}
-use Rattle.board.specs.Points.{ascendingFrom, keysOf, infosOf}
+use Rattle.board.specs.Points.{ascendingFrom, keysOf, infosOf, waits, commandOf}
 use Rattle.board.specs.Board.{noTrack, trackAt, isPresent, pointsTest}
-use Rattle.board.specs.Tick.{Stage, staged, waits, commandOf, stirring, stepRecords, reachedBy, foundBy, runCommand, runAll, tickFrom, playBit, playingWord, TracksRule}
+use Rattle.board.specs.Tick.{Stage, staged, stirring, stepRecords, reachedBy, foundBy, runCommand, runAll, tickFrom, playBit, playingWord, TracksRule}
 use Rattle.board.specs.Tick.{members}
 use Rattle.board.specs.Quiet.{Each, Able, Leapable, leapInto, leapTracks}
 use Rattle.board.proofs.points.Keys.{ascending-head, ascending-rest}

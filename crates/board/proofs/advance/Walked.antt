@@ -14,7 +14,8 @@ use Rattle.track.specs.Walk.{stops, visited, step}
 use Rattle.board.specs.declared.log.Record.{Record}
 use Rattle.board.specs.Board.{noTrack, trackAt}
 use Rattle.board.specs.Tick.{keep, members}
-use Rattle.board.specs.Tick.{waits, targetOf, pointRecords, playBit, playingWord, Stage, staged, foundBy, stepRecords, reachedBy, stepMember, stepAll, obeyed, runCommand, runAll, tickFrom}
+use Rattle.board.specs.Tick.{pointRecords, playBit, playingWord, Stage, staged, foundBy, stepRecords, reachedBy, stepMember, stepAll, obeyed, runCommand, runAll, tickFrom}
+use Rattle.board.specs.Points.{waits, targetOf}
 use Rattle.board.specs.Quiet.{Some, Telling, Fewest, Leapable, whereSet, leapTracks}
 use Rattle.board.proofs.points.Keys.{lt-or-ge}
 use Rattle.board.proofs.tick.PlayingLaws.{bit-small}

@@ -18,10 +18,10 @@ use Rattle.board.specs.declared.Board.{Board}
 use Rattle.board.specs.declared.log.Record.{Record}
 use Rattle.board.specs.declared.call.Call.{Call}
 use Rattle.board.specs.declared.call.Call.the-variants as call
-use Rattle.board.specs.Points.{ascendingFrom, keysOf, infosOf}
+use Rattle.board.specs.Points.{ascendingFrom, keysOf, infosOf, waits, commandOf, targetOf}
 use Rattle.board.specs.Board.{trackAt, noTrack}
 use Rattle.board.specs.Tick.{members}
-use Rattle.board.specs.Tick.{waits, commandOf, targetOf, Stage, pointRecords, changeRecords, foundBy, stepRecords, reachedBy, stepMember}
+use Rattle.board.specs.Tick.{Stage, pointRecords, changeRecords, foundBy, stepRecords, reachedBy, stepMember}
 use Rattle.board.specs.Tick.{stepAll, commandRecords, obeyedRecords, runAll, playingWord, tickFrom, tickOf}
 use Rattle.board.specs.Mode.{Ruling, modeRuling}
 use Rattle.board.specs.Replay.{only}

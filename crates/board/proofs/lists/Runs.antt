@@ -9,11 +9,11 @@ use Rattle.track.specs.Setup.{settled, permits, startSet, endSet, loopsSet, rep
 use Rattle.board.specs.declared.Board.{Board}
 use Rattle.board.specs.declared.call.Call.{Call}
 use Rattle.board.specs.Log.{le, twosOf, recordBytes, logBytes}
-use Rattle.board.specs.Points.{keyOf, infoOf, pointOf, hasKey, firstFrom, insertAt, insertRow, noPoints, infoAt, replaced, added, storedIn}
+use Rattle.board.specs.Points.{keyOf, infoOf, pointOf, hasKey, firstFrom, insertAt, insertRow, noPoints, infoAt, replaced, added, storedIn, waits}
 use Rattle.board.specs.Board.{isPresent, tracksTest, placeTest, deedTest, pointsTest, shapeTest, unbrokenParts, freshBoard, foundIn}
 use Rattle.board.specs.Setup.{setUp, addTrack, drawnFrom, setPoint}
 use Rattle.board.specs.Tick.{membersFrom}
-use Rattle.board.specs.Tick.{waits, pointRecords, changeRecords, playingWord, stepRecords, stepMember, stepAll, commandRecords, commanded, runCommand, runAll, tickFrom}
+use Rattle.board.specs.Tick.{pointRecords, changeRecords, playingWord, stepRecords, stepMember, stepAll, commandRecords, commanded, runCommand, runAll, tickFrom}
 use Rattle.board.specs.Mode.{changesTo, decided, modeRuling}
 use Rattle.board.specs.Cut.{All, ticks, advance, performs}
 use Rattle.board.specs.Replay.{World, perform}

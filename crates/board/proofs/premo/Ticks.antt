@@ -17,14 +17,14 @@ use Rattle.track.specs.Rule.{STOPPED, PLAYING, PAUSED, WAITING, stopped, entere
 use Rattle.track.specs.Grid.{PLAY, PAUSE, RESUME, STOP, gridOf}
 use Rattle.track.specs.Walk.{arrival, stops, visited, step}
 use Rattle.track.proofs.Tests.{cond-cases, both, refuted}
-use Rattle.board.specs.Points.{ascendingFrom, key, keysOf, infosOf, infoAt, hasKey}
+use Rattle.board.specs.Points.{ascendingFrom, key, keysOf, infosOf, infoAt, hasKey, waits, commandOf, targetOf}
 use Rattle.board.proofs.points.Keys.{same-or-not, ascending-head, ascending-rest}
 use Rattle.board.specs.declared.Board.{Board}
 use Rattle.board.specs.Board.{trackAt, noTrack, isPresent, Unbroken}
 use Rattle.board.proofs.rules.Broken.{present-small, present-bit, half-bit, unbroken-is}
 use Rattle.board.specs.Tick.{members}
 use Rattle.board.specs.Quiet.{Each}
-use Rattle.board.specs.Tick.{waits, commandOf, targetOf, Stage, staged, reachedBy, playingWord, foundBy, stepMember, stepAll, commanded, obeyed, runAll, tickFrom, tickOf}
+use Rattle.board.specs.Tick.{Stage, staged, reachedBy, playingWord, foundBy, stepMember, stepAll, commanded, obeyed, runAll, tickFrom, tickOf}
 use Rattle.board.proofs.tick.Commands.{obeyedIn, tracksRun, run-apart, tracks-first}
 use Rattle.board.proofs.quiet.Players.{EachPlaying, each-member, bit-plays}
 use Rattle.board.proofs.tick.Steps.{members-ascend, foundAt, steppedIn, writtenBy, stepsFrom, steps-apart, steps-below, steps-long, found-target}

@@ -14,10 +14,10 @@ use Rattle.track.specs.Walk.{arrival, passesAt, stops, visited, step}
 use Rattle.track.specs.Leap.{leap}
 use Rattle.track.proofs.Leaps.{leap-zero, leap-suc, leap-valid}
 use Rattle.board.specs.declared.log.Record.{Record}
-use Rattle.board.specs.Points.{key}
+use Rattle.board.specs.Points.{key, waits}
 use Rattle.board.specs.Board.{noTrack, trackAt}
 use Rattle.board.specs.Tick.{keep, members}
-use Rattle.board.specs.Tick.{waits, pointRecords, changeRecords, playBit, playingWord, Stage, staged, foundBy, stepRecords, reachedBy, stepMember, stepAll, runAll, tickFrom}
+use Rattle.board.specs.Tick.{pointRecords, changeRecords, playBit, playingWord, Stage, staged, foundBy, stepRecords, reachedBy, stepMember, stepAll, runAll, tickFrom}
 use Rattle.board.specs.Quiet.{Each, Some, Telling, reaches, loud, Calm, Fewest, Leapable, leapTracks}
 use Rattle.board.proofs.points.Table.{info-none}
 use Rattle.board.proofs.tick.Commands.{run-more}

@@ -84,14 +84,16 @@ module _ (present : ℕ) (ts : List Track) (p : Point) where
   point-of h k =
       let a = both (isPresent present (p .track)) (leb (owner .min .0) (p .position .0) && leb (p .position .0) (owner .max .0)) h in
       let b = both (leb (owner .min .0) (p .position .0)) (leb (p .position .0) (owner .max .0)) (a .1) in
-      let e = both (leb 1 (p .event)) (leb (p .event) eventMost && (leb (p .command) 4 && target)) k in
-      let f = both (leb (p .event) eventMost) (leb (p .command) 4 && target) (e .1) in
-      let g = both (leb (p .command) 4) target (f .1) in
+      let e = both (leb 1 (p .event)) (leb (p .event) eventMost && (leb (p .wait) 1 && (leb (p .command) 4 && target))) k in
+      let f = both (leb (p .event) eventMost) (leb (p .wait) 1 && (leb (p .command) 4 && target)) (e .1) in
+      let w = both (leb (p .wait) 1) (leb (p .command) 4 && target) (f .1) in
+      let g = both (leb (p .command) 4) target (w .1) in
       record {
         track = a .0;
         low = leb-true _ _ (b .0);
         high = leb-true _ _ (b .1);
         event = (leb-true _ _ (e .0), leb-true _ _ (f .0));
+        wait = leb-true _ _ (w .0);
         command = leb-true _ _ (g .0);
         target = g .1;
       }
@@ -100,7 +102,7 @@ module _ (present : ℕ) (ts : List Track) (p : Point) where
   unfolding placeTest deedTest
   point-is r = (
     both-is (r .track) (both-is (le-leb _ _ (r .low)) (le-leb _ _ (r .high))),
-    both-is (le-leb _ _ (r .event .0)) (both-is (le-leb _ _ (r .event .1)) (both-is (le-leb _ _ (r .command)) (r .target))),
+    both-is (le-leb _ _ (r .event .0)) (both-is (le-leb _ _ (r .event .1)) (both-is (le-leb _ _ (r .wait)) (both-is (le-leb _ _ (r .command)) (r .target)))),
   )
 
 module _ (present : ℕ) (ts : List Track) where

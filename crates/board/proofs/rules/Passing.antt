@@ -17,7 +17,7 @@ use Rattle.track.specs.declared.number.Natural.the-variants as natural
 use Rattle.track.specs.Number.{naturalOf}
 use Rattle.board.specs.declared.points.Point.{Point}
 use Rattle.board.specs.Board.{foundIn}
-use Rattle.board.specs.Points.{pointMost, stride, pointOf}
+use Rattle.board.specs.Points.{pointMost, stride, pointOf, eventOf, waitOf, commandOf, targetOf}
 use Rattle.board.specs.Board.{eventMost, noTrack, trackAt, isPresent, tracksTest, placeTest, deedTest, pointsTest, shapeTest, unbrokenParts}
 use Rattle.board.proofs.rules.Broken.{present-not}
 
@@ -78,21 +78,25 @@ module _ (present : ℕ) (p : Point) where
   unfolding deedTest
   deed-event h = simp (lt-leb _ _ h, and-false)
 
+  pub deed-wait : 1 < p .wait → false ≡ deedTest present p
+  unfolding deedTest
+  deed-wait h = simp (lt-leb _ _ h, and-false)
+
   pub deed-command : 4 < p .command → false ≡ deedTest present p
   unfolding deedTest
   deed-command h = simp (lt-leb _ _ h, and-false)
 
-  module _ (e : p .event ≡ 0 → ⊥) (m : p .event ≤ eventMost) (c : p .command ≤ 4) where
+  module _ (e : p .event ≡ 0 → ⊥) (m : p .event ≤ eventMost) (w : p .wait ≤ 1) (c : p .command ≤ 4) where
     one : leb 1 (p .event) ≡ true
     one = le-leb 1 (p .event) (omega arith)
 
     pub deed-free : p .command ≡ 0 → eqb (p .target) 0 ≡ deedTest present p
     unfolding deedTest
-    deed-free h = simp (one, le-leb _ _ m, le-leb _ _ c, eq-eqb _ _ h)
+    deed-free h = simp (one, le-leb _ _ m, le-leb _ _ w, le-leb _ _ c, eq-eqb _ _ h)
 
     pub deed-bound : (p .command ≡ 0 → ⊥) → isPresent present (p .target) ≡ deedTest present p
     unfolding deedTest
-    deed-bound h = simp (one, le-leb _ _ m, le-leb _ _ c, ne-eqb _ _ h)
+    deed-bound h = simp (one, le-leb _ _ m, le-leb _ _ w, le-leb _ _ c, ne-eqb _ _ h)
 
 -- ---- the points
 
@@ -122,9 +126,10 @@ module _ (present : ℕ) (ts : List Track) (lo k d : ℕ) (ks ds : List ℕ) whe
   unfolding deedTest pointOf
   points-target h =
       unable
-      (simp (← present-not present (d / 1048576) (omega arith), ne-eqb (d / 1048576) 0 (omega arith)) (either (eqb (d / 131072 % 8) 0)))
+      (simp (← present-not present (targetOf d) (omega arith), ne-eqb (targetOf d) 0 (omega arith)) (either (eqb (commandOf d) 0)))
     where
-      either : (b : Bool) → (leb 1 (d % 65536) && (leb (d % 65536) eventMost && (leb (d / 131072 % 8) 4 && cond b false false))) ≡ false
+      either : (b : Bool) →
+          (leb 1 (eventOf d) && (leb (eventOf d) eventMost && (leb (waitOf d) 1 && (leb (commandOf d) 4 && cond b false false)))) ≡ false
       either true = simp and-false
       either false = simp and-false
 

@@ -31,7 +31,7 @@ use Rattle.board.specs.declared.setup.Drawn.the-variants as drawn
 use Rattle.track.specs.Rule.{coordinateLast}
 use Rattle.track.proofs.Numbers.{between-clamped, clamped-most, natural-in, within-in, back}
 use Rattle.track.proofs.Tests.{both, both-is, same-tests}
-use Rattle.board.specs.Points.{stride, keysOf, infosOf, infoAt, pointOf, countOf, between}
+use Rattle.board.specs.Points.{stride, keysOf, infosOf, infoAt, pointOf, countOf, between, commandOf, targetOf}
 use Rattle.board.specs.Query.{inRange, pointRead}
 use Rattle.board.specs.Setup.{drawnFrom, ableOnly, pointWith, accepted, refused, boardWith, putPoints, onDrawn}
 use Rattle.board.specs.declared.Board.{Board}
@@ -83,8 +83,8 @@ drawn-rule present i ts position event wait command target h e =
     (λ ev _ _. good-natural (PointRule present ts) wait 0 1 _
     (λ w _ _. good-natural (PointRule present ts) command 0 4 _
     (λ c _ _. good-natural (PointRule present ts) target 0 15 _
-    (λ g _ _. good-able (PointRule present ts) present (pointWith i l ev (eqb w 1) c g)
-    (λ d. point-of present ts (pointWith i l ev (eqb w 1) c g) (both-is h (both-is (le-leb _ _ low) (le-leb _ _ high))) d)))))))
+    (λ g _ _. good-able (PointRule present ts) present (pointWith i l ev w c g)
+    (λ d. point-of present ts (pointWith i l ev w c g) (both-is h (both-is (le-leb _ _ low) (le-leb _ _ high))) d)))))))
 
 -- ---- the keys of an unbroken board
 
@@ -99,7 +99,7 @@ module _ (b : Board) (u : Unbroken b) where
       let d = getD (b .points .infos) j 0 in
       let t = present-small (b .present) (k / stride) (r .track) in
       let v = u .tracks (k / stride) (r .track) .valid .ordered in
-      let g = target-below (b .present) (d / 131072 % 8) (d / 1048576) (r .target) in
+      let g = target-below (b .present) (commandOf d) (targetOf d) (r .target) in
       (omega (arith, r .high, v .last), omega arith, omega arith)
 
   -- an info that is found is below 2^24

@@ -85,6 +85,7 @@ rule-kept word word′ ts ts′ p still same r = record {
   low = rw (same (p .track) (r .track) .0) (r .low);
   high = rw (same (p .track) (r .track) .1) (r .high);
   event = r .event;
+  wait = r .wait;
   command = r .command;
   target = go (eqb (p .command) 0) (r .target);
 }
@@ -197,7 +198,7 @@ module _ (b : Board) (w : Unbroken b) where
       set-point-ways b (λ (o : Outcome). Unbroken (o .board)) (λ n. w) track position event wait command target
       (λ p r _.
       let v = w .tracks (p .track) (r .track) .valid .ordered in
-      let back = point-back p (omega (arith, r .high)) (omega (arith, r .event)) (r .command) in
+      let back = point-back p (omega (arith, r .high)) (omega (arith, r .event)) (r .wait) (r .command) in
       put-points-whole (storedIn (b .points) (keyOf p) (infoOf p) .points) (stored-sorted (b .points) (keyOf p) sorted (infoOf p))
       (stored-each (EntryRule (b .present) (b .tracks)) (b .points) (keyOf p) sorted (w .points) (infoOf p) (rw back r)))
 

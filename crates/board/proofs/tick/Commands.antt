@@ -20,7 +20,8 @@ use Rattle.board.specs.declared.log.Record.{Record}
 use Rattle.board.specs.declared.tick.Staged.{Staged}
 use Rattle.board.specs.Log.{writeAt, logBytes}
 use Rattle.board.specs.Board.{trackCount, noTrack, trackAt, isPresent}
-use Rattle.board.specs.Tick.{commandOf, targetOf, Stage, staged, commandRecords, commanded, obeyed, obeyedRecords, runCommand, runAll, InfoRule, TracksRule}
+use Rattle.board.specs.Tick.{Stage, staged, commandRecords, commanded, obeyed, obeyedRecords, runCommand, runAll, InfoRule, TracksRule}
+use Rattle.board.specs.Points.{commandOf, targetOf}
 use Rattle.board.proofs.tick.Staging.{Obeyed, obeyed-most, write-none, written-more, written-long}
 
 -- ---- one command

@@ -19,7 +19,8 @@ use Rattle.track.proofs.Tests.{cond-cases}
 use Rattle.board.specs.declared.log.Record.{Record}
 use Rattle.board.specs.declared.tick.Staged.{Staged}
 use Rattle.board.specs.Log.{writeAt, recordBytes, logBytes}
-use Rattle.board.specs.Tick.{waits, commandOf, targetOf, eventOf, recordOf, pointRecords, changeRecords, refusalRecord, stepRecords, commandRecords, commanded, obeyed, obeyedRecords, reachedBy}
+use Rattle.board.specs.Tick.{recordOf, pointRecords, changeRecords, refusalRecord, stepRecords, commandRecords, commanded, obeyed, obeyedRecords, reachedBy}
+use Rattle.board.specs.Points.{waits, commandOf, targetOf, eventOf}
 use Rattle.board.proofs.log.Words.{write-write, length-write}
 use Rattle.board.proofs.log.Records.{length-record}
 use Rattle.board.proofs.rules.Passing.{row-next, row-end}

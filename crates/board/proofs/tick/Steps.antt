@@ -16,10 +16,10 @@ use Rattle.track.proofs.Tests.{cond-cases, both, both-is}
 use Rattle.track.proofs.Arrivals.{step-valid, step-passes, entered-valid, entered-passes}
 use Rattle.board.specs.declared.Board.{Board}
 use Rattle.board.specs.declared.log.Record.{Record}
-use Rattle.board.specs.Points.{pointMost, ascendingFrom, keysOf, infosOf, infoAt, pointOf}
+use Rattle.board.specs.Points.{pointMost, ascendingFrom, keysOf, infosOf, infoAt, pointOf, waits, eventOf, waitOf, commandOf, targetOf}
 use Rattle.board.specs.Board.{eventMost, trackAt, isPresent, placeTest, deedTest, tracksTest, pointsTest, shapeTest, unbrokenParts, unbrokenTest}
 use Rattle.board.specs.Tick.{keep, membersFrom, members}
-use Rattle.board.specs.Tick.{waits, eventOf, commandOf, targetOf, Stage, staged, foundBy, stepRecords, reachedBy, stepMember, stepAll, playingWord, tickFrom, tickOf, InfoRule, TracksRule}
+use Rattle.board.specs.Tick.{Stage, staged, foundBy, stepRecords, reachedBy, stepMember, stepAll, playingWord, tickFrom, tickOf, InfoRule, TracksRule}
 use Rattle.board.proofs.rules.Broken.{tracks-at, tracks-are, shape-same}
 use Rattle.board.proofs.points.Keys.{ascending-head, ascending-rest, ascending-cons}
 use Rattle.board.proofs.rules.Present.{target-below}
@@ -277,9 +277,10 @@ module _ (present : ℕ) where
   unfolding deedTest pointOf
   deed-able k d e =
       let target = cond (eqb (commandOf d) 0) (eqb (targetOf d) 0) (isPresent present (targetOf d)) in
-      let a = both (leb 1 (eventOf d)) (leb (eventOf d) eventMost && (leb (commandOf d) 4 && target)) e in
-      let b = both (leb (eventOf d) eventMost) (leb (commandOf d) 4 && target) (a .1) in
-      let c = both (leb (commandOf d) 4) target (b .1) in (
+      let a = both (leb 1 (eventOf d)) (leb (eventOf d) eventMost && (leb (waitOf d) 1 && (leb (commandOf d) 4 && target))) e in
+      let b = both (leb (eventOf d) eventMost) (leb (waitOf d) 1 && (leb (commandOf d) 4 && target)) (a .1) in
+      let w = both (leb (waitOf d) 1) (leb (commandOf d) 4 && target) (b .1) in
+      let c = both (leb (commandOf d) 4) target (w .1) in (
         record { event = leb-true _ _ (b .0); command = leb-true _ _ (c .0); target = target-below present (commandOf d) (targetOf d) (c .1) },
         λ n. rw (ne-eqb (commandOf d) 0 n) at (c .1),
       )

@@ -5,7 +5,8 @@ use mathlib.Core.Bool.{Bool, true, false, not, _||_}
 use lib.Dec.{eqb}
 use borrow.Author.Tests.{eq-eqb, ne-eqb}
 use Rattle.track.specs.Rule.{PLAYING}
-use Rattle.board.specs.Tick.{commandOf, stirring}
+use Rattle.board.specs.Tick.{stirring}
+use Rattle.board.specs.Points.{commandOf}
 
 -- a command
 pub stirs-asked : (before : Bool) (d mode : ℕ) → (commandOf d ≡ 0 → ⊥) → true ≡ (before || stirring d mode)

@@ -16,10 +16,10 @@ use Rattle.track.specs.Rule.{STOPPED}
 use Rattle.track.specs.Grid.{PLAY, PAUSE, RESUME, gridOf}
 use Rattle.track.specs.Number.{naturalOf, onNatural}
 use Rattle.track.specs.Walk.{stops, step}
-use Rattle.board.specs.Points.{keysOf, infosOf, hasKey}
+use Rattle.board.specs.Points.{keysOf, infosOf, hasKey, waits, commandOf, targetOf}
 use Rattle.board.specs.declared.Board.{Board}
 use Rattle.board.specs.Board.{trackAt, isPresent, freshBoard}
-use Rattle.board.specs.Tick.{members, waits, commandOf, targetOf, playingWord, foundBy, obeyed}
+use Rattle.board.specs.Tick.{members, playingWord, foundBy, obeyed}
 use Rattle.board.specs.declared.call.Call.{Call}
 use Rattle.board.specs.declared.call.Call.the-variants as call
 use Rattle.board.specs.Cut.{crossed, Part, run, one, part, performs}

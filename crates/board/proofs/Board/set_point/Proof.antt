@@ -133,7 +133,7 @@ key-requires : tie.Need-key-requires
 key-requires c κs = (present-small _ _ (ruled (c .before .before) .track), high (c .before .before))
 
 info-requires : tie.Need-info-requires
-info-requires c κs = let r = ruled (c .before .before .before) in (r .command, target-below (c .before .before .before .before .before .before .before .before .before .before .before .before .before .before .before .before .before .before .before .before .before .before .args .t1 .present) (c .before .before .before .p .given .0 .0 .command) (c .before .before .before .p .given .0 .0 .target) (r .target))
+info-requires c κs = let r = ruled (c .before .before .before) in (r .wait, r .command, target-below (c .before .before .before .before .before .before .before .before .before .before .before .before .before .before .before .before .before .before .before .before .before .before .args .t1 .present) (c .before .before .before .p .given .0 .0 .command) (c .before .before .before .p .given .0 .0 .target) (r .target))
 
 stored-requires : tie.Need-stored-requires
 stored-requires c κs = let u = kept (c .before .before .before .before .before .before .before .before .before .before .before .before .before .before) in (u .count, u .order)

@@ -1,4 +1,4 @@
-use Rattle.board.proofs.rules.Passing.{deed-none, deed-event, deed-command, deed-free, deed-bound}
+use Rattle.board.proofs.rules.Passing.{deed-none, deed-event, deed-wait, deed-command, deed-free, deed-bound}
 use Rattle.board.proofs.rules.able.Statement.{statement}
 use Rattle.board.proofs.rules.able.Tie as tie
 use borrow.Author.Needs.{needs}
@@ -11,10 +11,13 @@ returns-2 : tie.Need-returns-2
 returns-2 c = deed-event _ _ (c .if2 .taken)
 
 returns-3 : tie.Need-returns-3
-returns-3 c = deed-command _ _ (c .if3 .taken)
+returns-3 c = deed-wait _ _ (c .if3 .taken)
 
 returns-4 : tie.Need-returns-4
-returns-4 c = deed-free _ (c .before .before .before .before .before .args .p) (c .before .before .before .before .if1 .left) (c .before .before .before .if2 .left) (c .before .before .if3 .left) (c .before .if4 .taken)
+returns-4 c = deed-command _ _ (c .if4 .taken)
+
+returns-5 : tie.Need-returns-5
+returns-5 c = deed-free _ (c .before .before .before .before .before .before .args .p) (c .before .before .before .before .before .if1 .left) (c .before .before .before .before .if2 .left) (c .before .before .before .if3 .left) (c .before .before .if4 .left) (c .before .if5 .taken)
 
 cast-is-present : tie.Need-cast-is-present
 cast-is-present c = search needs
@@ -22,10 +25,10 @@ cast-is-present c = search needs
 is-present-requires : tie.Need-is-present-requires
 is-present-requires c κs = search needs
 
-returns-5 : tie.Need-returns-5
-returns-5 c = c .is-present .ensures ∙ deed-bound _ (c .before .before .before .before .before .before .args .p) (c .before .before .before .before .before .if1 .left) (c .before .before .before .before .if2 .left) (c .before .before .before .if3 .left) (c .before .before .if4 .left)
+returns-6 : tie.Need-returns-6
+returns-6 c = c .is-present .ensures ∙ deed-bound _ (c .before .before .before .before .before .before .before .args .p) (c .before .before .before .before .before .before .if1 .left) (c .before .before .before .before .before .if2 .left) (c .before .before .before .before .if3 .left) (c .before .before .before .if4 .left) (c .before .before .if5 .left)
 
 pub able-spec : {M : Type 1} → statement M
 able-spec =
     tie.close
-    (tie.spec returns returns-2 returns-3 returns-4 cast-is-present is-present-requires returns-5)
+    (tie.spec returns returns-2 returns-3 returns-4 returns-5 cast-is-present is-present-requires returns-6)

@@ -101,6 +101,9 @@ returns-5 c =
 cast-t22 : tie.Need-cast-t22
 cast-t22 c = fits-below tt (natural-in _ 1 255 (told (number 1 255) (c .before .before .before .before .before .before .before .before .before .before .before .before .before .before .before .before .before .before .before .before .before .before .fits .event) (c .before .before .before .before .before .before .before .before .before .before .before .before .before .before .before .in-range .ensures) (c .before .before .before .before .before .before .before .before .before .before .before .before .before .e .given .1)) .2)
 
+cast-t23 : tie.Need-cast-t23
+cast-t23 c = fits-below tt (natural-in _ 0 1 (told (number 0 1) (c .before .before .before .before .before .before .before .before .before .before .before .before .before .before .before .before .before .before .before .before .before .before .fits .wait) (c .before .before .before .before .before .before .before .before .before .before .before .in-range2 .ensures) (c .before .before .before .before .before .before .before .before .before .w .given .1)) .2)
+
 cast-t24 : tie.Need-cast-t24
 cast-t24 c = fits-below tt (natural-in _ 0 4 (told (number 0 4) (c .before .before .before .before .before .before .before .before .before .before .before .before .before .before .before .before .before .before .before .before .before .before .fits .command) (c .before .before .before .before .before .before .before .in-range3 .ensures) (c .before .before .before .before .before .c .given .1)) .2)
 
@@ -155,6 +158,7 @@ draw-spec =
     enum-told-5
     returns-5
     cast-t22
+    cast-t23
     cast-t24
     cast-t25
     able-requires

@@ -2,7 +2,7 @@ use Prim.Native.Nat.{_≤_}
 use Rattle.board.proofs.tick.Staging.{written-long, step-out, point-most}
 use Rattle.board.proofs.tick.step_member.Statement.{statement}
 use Rattle.board.proofs.tick.step_member.Tie as tie
-use Rattle.board.specs.Tick.{waits}
+use Rattle.board.specs.Points.{waits}
 use Rattle.track.proofs.Arrivals.{step-valid}
 use Rattle.track.specs.declared.Track.{Track}
 use borrow.Author.Needs.{needs}

@@ -1,8 +1,14 @@
-use Rattle.board.proofs.points.Point.info.Statement.{statement}
-use Rattle.board.proofs.points.Point.info.Tie as tie
-use Rattle.board.specs.Points.{infoOf}
 use borrow.Author.Needs.{needs}
 use native.Mathlib.Omega.{arith}
+use Rattle.board.specs.Points.{infoOf}
+use Rattle.board.proofs.points.Point.info.Statement.{statement}
+use Rattle.board.proofs.points.Point.info.Tie as tie
+
+cast-flag : tie.Need-cast-flag
+cast-flag c = search needs
+
+mul-flag : tie.Need-mul-flag
+mul-flag c = search needs
 
 cast-rest : tie.Need-cast-rest
 cast-rest c = search needs
@@ -28,24 +34,16 @@ add-result c = search needs
 add-result-2 : tie.Need-add-result-2
 add-result-2 c = search needs
 
-cast-result-2 : tie.Need-cast-result-2
-cast-result-2 c = search needs
-
-add-result-3 : tie.Need-add-result-3
-add-result-3 c = search needs
-
 returns : tie.Need-returns
 unfolding infoOf
-returns c = rw (c .before .if1 .taken) (omega arith)
-
-returns-2 : tie.Need-returns-2
-unfolding infoOf
-returns-2 c = rw (c .before .if1 .left) (omega arith)
+returns c = omega arith
 
 pub info-spec : {M : Type 1} → statement M
 info-spec =
     tie.close
     (tie.spec
+    cast-flag
+    mul-flag
     cast-rest
     mul-rest
     cast-rest-2
@@ -54,7 +52,4 @@ info-spec =
     cast-result
     add-result
     add-result-2
-    cast-result-2
-    add-result-3
-    returns
-    returns-2)
+    returns)

@@ -10,6 +10,9 @@ cast-t4 c = search needs
 cast-t8 : tie.Need-cast-t8
 cast-t8 c = search needs
 
+cast-t11 : tie.Need-cast-t11
+cast-t11 c = search needs
+
 cast-t14 : tie.Need-cast-t14
 cast-t14 c = search needs
 
@@ -21,4 +24,4 @@ unfolding pointOf
 returns c = refl
 
 pub of-spec : {M : Type 1} → statement M
-of-spec = tie.close (tie.spec cast-t4 cast-t8 cast-t14 cast-t16 returns)
+of-spec = tie.close (tie.spec cast-t4 cast-t8 cast-t11 cast-t14 cast-t16 returns)
