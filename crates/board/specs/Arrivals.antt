@@ -9,6 +9,7 @@ use Rattle.board.specs.declared.log.Record.{Record}
 use Rattle.board.specs.Points.{key, keysOf, infosOf, infoAt, eventOf, commandOf, targetOf}
 use Rattle.board.specs.Board.{trackAt}
 use Rattle.board.specs.Tick.{members, recordOf, playingWord}
+use Rattle.board.specs.Log.{detailUnit}
 
 -- an arrival: the track, where, and the info of its point there
 pub record Arrival : Type 0 where
@@ -35,7 +36,7 @@ arrivalsIn b = arrivalsOf b (members (playingWord (b .present) (b .tracks)))
 abbrev pub noteOf : Board → Arrival → Record
 noteOf b a =
     let d = a .info in
-    recordOf (b .clock .0 + 1) (a .track) 1 (eventOf d) (commandOf d * 16 + targetOf d) (a .location) (trackAt (b .tracks) (a .track) .passes .0)
+    recordOf (b .clock .0 + 1) (a .track) 1 (eventOf d) (commandOf d * detailUnit + targetOf d) (a .location) (trackAt (b .tracks) (a .track) .passes .0)
 
 abbrev pub notesIn : Board → List Record
 notesIn b = map (noteOf b) (arrivalsIn b)

@@ -11,14 +11,11 @@ use Rattle.track.specs.Rule.{clockEnd, Sound, soundTest, newTrack}
 use Rattle.board.specs.declared.Board.{Board}
 use Rattle.board.specs.declared.points.Points.{Points}
 use Rattle.board.specs.declared.points.Point.{Point}
-use Rattle.board.specs.Points.{pointMost, ascendingFrom, keysOf, pointOf, noPoints}
+use Rattle.board.specs.Points.{pointMost, ascendingFrom, keysOf, pointOf, noPoints, trackCount}
 use lib.IntN.{ℤ}
 use Rattle.track.specs.declared.number.Natural.{Natural}
 use Rattle.track.specs.declared.number.Natural.the-variants as natural
 use Rattle.track.specs.Number.{naturalOf, onNatural}
-
-abbrev pub trackCount : ℕ
-trackCount = 16
 
 -- an event 1 to 255
 abbrev pub eventMost : ℕ

@@ -24,8 +24,13 @@ fromLe (b ∷ bs) = b + 256 * fromLe bs
 unfoldable pub writeAt : List ℕ → ℕ → List ℕ → List ℕ
 writeAt xs at ys = take at xs ++ (ys ++ drop (at + length ys) xs)
 
+-- the bytes of a record
 abbrev pub recordWidth : ℕ
 recordWidth = 16
+
+-- a detail is one number times this, and another
+abbrev pub detailUnit : ℕ
+detailUnit = 16
 
 -- kinds 1 to 3: point, mode change, refused command
 unfoldable pub kindTest : ℕ → Bool

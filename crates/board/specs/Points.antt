@@ -14,12 +14,20 @@ use Rattle.board.specs.declared.points.Near.the-variants.{At, Nothing}
 abbrev pub pointMost : ℕ
 pointMost = 256
 
+-- tracks 0 to 15
+abbrev pub trackCount : ℕ
+trackCount = 16
+
 -- The key of a track and a coordinate: ascending keys are ascending by track and position.
 abbrev pub stride : ℕ
 stride = 2097152
 
 abbrev pub key : ℕ → ℕ → ℕ
 key track l = track * stride + l
+
+-- past the keys of track 15
+abbrev pub keyEnd : ℕ
+keyEnd = stride * trackCount
 
 unfoldable pub keyOf : Point → ℕ
 keyOf p = key (p .track) (p .position .0)
@@ -34,6 +42,10 @@ commandUnit = 131072
 
 abbrev pub targetUnit : ℕ
 targetUnit = 1048576
+
+-- past the infos with target 15
+abbrev pub infoEnd : ℕ
+infoEnd = targetUnit * trackCount
 
 unfoldable pub infoOf : Point → ℕ
 infoOf p = p .event + waitUnit * p .wait + commandUnit * p .command + targetUnit * p .target

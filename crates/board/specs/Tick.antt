@@ -13,8 +13,9 @@ use Rattle.track.specs.Grid.{gridOf}
 use Rattle.track.specs.Walk.{arrival, passesAt, step}
 use Rattle.board.specs.declared.Board.{Board}
 use Rattle.board.specs.declared.log.Record.{Record}
-use Rattle.board.specs.Points.{key, keysOf, infosOf, infoAt, eventOf, commandOf, targetOf, waits}
-use Rattle.board.specs.Board.{trackCount, eventMost, trackAt, isPresent}
+use Rattle.board.specs.Points.{key, keysOf, infosOf, infoAt, eventOf, commandOf, targetOf, waits, trackCount}
+use Rattle.board.specs.Board.{eventMost, trackAt, isPresent}
+use Rattle.board.specs.Log.{detailUnit}
 
 -- ---- the members of a word
 
@@ -30,7 +31,7 @@ membersFrom (suc k) t word = keep (word % 2) t (membersFrom k (suc t) (word / 2)
 
 -- the members of a 16-bit word, lowest first
 abbrev pub members : ℕ → List ℕ
-members word = membersFrom 16 0 word
+members word = membersFrom trackCount 0 word
 
 -- ---- records (01, "Log record")
 abbrev pub recordOf : ℕ → ℕ → ℕ → ℕ → ℕ → ℕ → ℕ → Record
@@ -48,18 +49,18 @@ recordOf clock track kind event detail position passes =
 -- kind 1, point: detail = command × 16 + target
 unfoldable pub pointRecords : ℕ → ℕ → ℕ → ℕ → ℕ → List Record
 pointRecords clock track l passes d =
-    cond (eqb d 0) [] (recordOf clock track 1 (eventOf d) (commandOf d * 16 + targetOf d) l passes ∷ [])
+    cond (eqb d 0) [] (recordOf clock track 1 (eventOf d) (commandOf d * detailUnit + targetOf d) l passes ∷ [])
 
 -- kind 2, mode change: the action's event, old mode × 16 + new mode; written only if the action cell is not 0
 unfoldable pub changeRecords : ℕ → ℕ → Track → ℕ → ℕ → ℕ → List Record
 changeRecords clock track t new l passes =
     let event = actionCell t (t .mode) new in
-    cond (eqb event 0) [] (recordOf clock track 2 event (t .mode * 16 + new) l passes ∷ [])
+    cond (eqb event 0) [] (recordOf clock track 2 event (t .mode * detailUnit + new) l passes ∷ [])
 
 -- kind 3: track = target, event = the point's, detail = command × 16 + the target's mode, the target's position and passes
 abbrev pub refusalRecord : ℕ → ℕ → Track → Record
 refusalRecord clock d t =
-    recordOf clock (targetOf d) 3 (eventOf d) (commandOf d * 16 + t .mode) (t .position .0) (t .passes .0)
+    recordOf clock (targetOf d) 3 (eventOf d) (commandOf d * detailUnit + t .mode) (t .position .0) (t .passes .0)
 
 -- ---- The tracks PLAYING at the start of a tick form a 16-bit word.
 abbrev pub playBit : ℕ → Track → ℕ
@@ -133,6 +134,10 @@ runCommand clock d s =
 unfoldable pub runAll : ℕ → List ℕ → Stage → Stage
 runAll clock [] s = s
 runAll clock (d ∷ ds) s = runAll clock ds (runCommand clock d s)
+
+-- the records of a tick at most: two of each step, and one of each command
+abbrev pub tickMost : ℕ
+tickMost = 48
 
 -- ---- the tick: the playing tracks, then the commands of the points reached; `clock` is the clock after the tick
 unfoldable pub tickFrom : List ℕ → List ℕ → ℕ → ℕ → List Track → Stage

@@ -7,7 +7,7 @@ ghost use mathlib.Core.Path.{_≡_};
 ghost use mathlib.Core.List.{_∷_, []};
 ghost use Prim.Native.Nat.{_+_, _<_, _≤_};
 ghost use lib.ListN.{length, take, drop};
-ghost use Rattle.board.specs.Log.{writeAt, le, fromLe, kindTest, twosOf, coordinateFrom, recordBytes, unpackOf, packAnswer, packBytes};
+ghost use Rattle.board.specs.Log.{writeAt, le, fromLe, kindTest, twosOf, coordinateFrom, recordBytes, unpackOf, packAnswer, packBytes, recordWidth};
 
 pub struct Record {
     // The clock after the tick, or as it is at a mode call.
@@ -30,6 +30,9 @@ pub enum Unpacked {
 impl Record {
     // Bytes of a record in the log.
     pub const WIDTH: usize = 16;
+
+    // A detail is one number times this, and another.
+    pub const DETAIL: u8 = 16;
 
     pub const POINT: u8 = 1;
 
@@ -87,7 +90,7 @@ fn coordinate_of(w: u32) -> Coordinate
 
 // A record is written at a place where it fits.
 pub(crate) fn put_record(r: Record, log: &mut [u8], at: usize)
-    requires { ⌜ at + 16 ≤ length (now log) ⌝ }
+    requires { ⌜ at + recordWidth ≤ length (now log) ⌝ }
     ensures { λ _. ⌜ now (log .exit) ≡ writeAt (now (log .entry)) at (recordBytes r) ⌝ }
 {
     let clock = r.clock.0;

@@ -5,7 +5,8 @@ ghost use mathlib.Core.Path.{_≡_};
 ghost use mathlib.Core.Bool.{true};
 ghost use Prim.Native.Nat.{_+_, _*_, _≤_, _<_};
 ghost use lib.ListN.{length, take};
-ghost use Rattle.board.specs.Points.{pointMost, stride, keysOf, keyOf, infoOf, pointOf, ascendingFrom, firstFrom, insertRow, removeRow, infoAt, storedIn, droppedFrom, countOf, between, findFirst, findLast, nearest, key, noPoints};
+ghost use Rattle.track.specs.Rule.{coordinateLast};
+ghost use Rattle.board.specs.Points.{pointMost, stride, keysOf, keyOf, infoOf, pointOf, ascendingFrom, firstFrom, insertRow, removeRow, infoAt, storedIn, droppedFrom, countOf, between, findFirst, findLast, nearest, key, noPoints, trackCount, keyEnd, infoEnd};
 
 // A reference point (000, section 2), as calls and queries exchange it.
 #[repr(C)]
@@ -49,6 +50,9 @@ impl Points {
 
     // What the keys of two tracks are apart.
     pub const STRIDE: u32 = 2097152;
+
+    // Every key is below this one.
+    pub const END: u32 = 33554432;
 
     // No point.
     pub fn new() -> Self
@@ -116,7 +120,7 @@ impl Points {
         requires { ⌜ n ≤ length (now keys) ⌝ }
         requires { ⌜ ascendingFrom 0 (take n (now keys)) ≡ true ⌝ }
         requires { ⌜ track * stride ≤ from ⌝ }
-        requires { ⌜ track < 16 ⌝ }
+        requires { ⌜ track < trackCount ⌝ }
         ensures { λ r. ⌜ r ≡ findFirst (between from past) track (take n (now (keys .entry))) ⌝ }
     {
         let i = Points::first_from(keys, n, from);
@@ -135,7 +139,7 @@ impl Points {
         requires { ⌜ n ≤ length (now keys) ⌝ }
         requires { ⌜ ascendingFrom 0 (take n (now keys)) ≡ true ⌝ }
         requires { ⌜ track * stride ≤ from ⌝ }
-        requires { ⌜ track < 16 ⌝ }
+        requires { ⌜ track < trackCount ⌝ }
         ensures { λ r. ⌜ r ≡ findLast (between from past) track (take n (now (keys .entry))) ⌝ }
     {
         let i = Points::first_from(keys, n, past);
@@ -162,7 +166,7 @@ impl Points {
     ) -> Lookup
         requires { ⌜ (n ≤ length (now keys)) × (n ≤ length (now infos)) ⌝ }
         requires { ⌜ ascendingFrom 0 (take n (now keys)) ≡ true ⌝ }
-        requires { ⌜ (track < 16) × (position .0 ≤ 2000000) × (start .0 ≤ 2000000) × (end .0 ≤ 2000000) ⌝ }
+        requires { ⌜ (track < trackCount) × (position .0 ≤ coordinateLast) × (start .0 ≤ coordinateLast) × (end .0 ≤ coordinateLast) ⌝ }
         ensures info { λ r. ⌜ r .info ≡ infoAt (key track (position .0)) (take n (now (keys .entry))) (take n (now (infos .entry))) ⌝ }
         ensures near { λ r. ⌜ r .near ≡ nearest backward track (position .0) (start .0) (end .0) (take n (now (keys .entry))) ⌝ }
     {
@@ -275,9 +279,12 @@ impl Point {
 
     pub const TARGET: u32 = 1048576;
 
+    // Every info is below this one.
+    pub const END: u32 = 16777216;
+
     // The key of a point.
     pub(crate) fn key(self) -> u32
-        requires { ⌜ (self .track < 16) × (self .position .0 ≤ 2000000) ⌝ }
+        requires { ⌜ (self .track < trackCount) × (self .position .0 ≤ coordinateLast) ⌝ }
         ensures { λ r. ⌜ r ≡ keyOf self ⌝ }
     {
         self.track as u32 * Points::STRIDE + self.position.0
@@ -285,7 +292,7 @@ impl Point {
 
     // What else a point has, as one number.
     pub(crate) fn info(self) -> u32
-        requires { ⌜ (self .wait ≤ 1) × (self .command ≤ 4) × (self .target < 16) ⌝ }
+        requires { ⌜ (self .wait ≤ 1) × (self .command ≤ 4) × (self .target < trackCount) ⌝ }
         ensures { λ r. ⌜ r ≡ infoOf self ⌝ }
     {
         let flag = self.wait as u32 * Point::WAIT;
@@ -295,7 +302,7 @@ impl Point {
 
     // A point from its two numbers.
     pub(crate) fn of(wanted: u32, info: u32) -> Point
-        requires { ⌜ (wanted < 33554432) × (info < 16777216) ⌝ }
+        requires { ⌜ (wanted < keyEnd) × (info < infoEnd) ⌝ }
         ensures { λ r. ⌜ r ≡ pointOf wanted info ⌝ }
     {
         Point {

@@ -9,7 +9,7 @@ ghost use mathlib.Core.Bool.{true};
 ghost use Prim.Native.Nat.{_≤_, _<_, min};
 ghost use lib.ListN.{length, take};
 ghost use Rattle.track.specs.Rule.{Valid, clockEnd};
-ghost use Rattle.board.specs.Points.{ascendingFrom};
+ghost use Rattle.board.specs.Points.{ascendingFrom, trackCount};
 ghost use Rattle.board.specs.Tick.{members};
 ghost use Rattle.board.specs.Quiet.{Telling, ToPoint, QuietSteps, Leapable, Fewest, leapInto};
 
@@ -17,7 +17,7 @@ ghost use Rattle.board.specs.Quiet.{Telling, ToPoint, QuietSteps, Leapab
 // at the next location or the nearest further on, else the one on home or the nearest further on from there.
 fn to_point<'a>(t: Track, track: u32, keys: &'a [u32], infos: &'a [u32], n: usize) -> Ticks
     requires { ⌜ Valid t ⌝ }
-    requires { ⌜ track < 16 ⌝ }
+    requires { ⌜ track < trackCount ⌝ }
     requires { ⌜ (n ≤ length (now keys)) × (n ≤ length (now infos)) ⌝ }
     requires { ⌜ ascendingFrom 0 (take n (now keys)) ≡ true ⌝ }
     requires { ⌜ Telling (take n (now keys)) (take n (now infos)) ⌝ }
@@ -50,7 +50,7 @@ fn to_point<'a>(t: Track, track: u32, keys: &'a [u32], infos: &'a [u32], n: usiz
 // The ticks before the first that reaches a point or stops the track, at most the clock's end.
 fn quiet_steps<'a>(t: Track, track: u32, keys: &'a [u32], infos: &'a [u32], n: usize) -> Ticks
     requires { ⌜ Valid t ⌝ }
-    requires { ⌜ track < 16 ⌝ }
+    requires { ⌜ track < trackCount ⌝ }
     requires { ⌜ (n ≤ length (now keys)) × (n ≤ length (now infos)) ⌝ }
     requires { ⌜ ascendingFrom 0 (take n (now keys)) ≡ true ⌝ }
     requires { ⌜ Telling (take n (now keys)) (take n (now infos)) ⌝ }

@@ -9,8 +9,8 @@ use track::number::in_range;
 ghost use mathlib.Core.Path.{_≡_};
 ghost use Prim.Native.Nat.{_+_, _^_, _≤_, _<_};
 ghost use lib.ListN.{length, take};
-ghost use Rattle.board.specs.Points.{pointMost};
-ghost use Rattle.board.specs.Board.{trackCount, isPresent, tracksTest, placeTest, deedTest, pointsTest, unbrokenParts, foundIn};
+ghost use Rattle.board.specs.Points.{pointMost, trackCount};
+ghost use Rattle.board.specs.Board.{isPresent, tracksTest, placeTest, deedTest, pointsTest, unbrokenParts, foundIn};
 ghost use Rattle.track.specs.Rule.{soundTest};
 ghost use mathlib.Core.Bool.{false, not, _||_};
 
@@ -130,10 +130,10 @@ fn points_kept<'a>(
         if k < low {
             return false;
         }
-        if Points::STRIDE * 16 <= k {
+        if Points::END <= k {
             return false;
         }
-        if 16777216 <= d {
+        if Point::END <= d {
             return false;
         }
         let p = Point::of(k, d);

@@ -17,7 +17,7 @@ ghost use lib.ListN.{length, take, drop};
 ghost use Rattle.track.specs.Rule.{Valid, clockEnd};
 ghost use Rattle.track.specs.Grid.{gridOf};
 ghost use Rattle.track.specs.Walk.{arrival, step};
-ghost use Rattle.board.specs.Log.{writeAt, logBytes};
+ghost use Rattle.board.specs.Log.{writeAt, logBytes, recordWidth};
 ghost use Rattle.board.specs.Tick.{pointRecords, changeRecords, stepRecords, commandRecords, commanded, obeyed, obeyedRecords, runAll, staged, reachedBy, stirring, playBit, playingWord, InfoRule, TracksRule};
 ghost use Rattle.board.specs.Points.{waits, commandOf};
 
@@ -31,7 +31,7 @@ impl Staged {
     // The most records of a tick, and their bytes.
     pub const MOST: usize = 48;
 
-    pub const BYTES: usize = 768;
+    pub const BYTES: usize = Staged::MOST * Record::WIDTH;
 }
 
 // The tracks after a tick's commands, the number of records staged, and the word of the tracks that play then.
@@ -76,10 +76,10 @@ fn stage_point(
     passes: Passes,
     d: u32,
 ) -> usize
-    requires { ⌜ n * 16 + 16 ≤ length (now stage) ⌝ }
+    requires { ⌜ n * recordWidth + recordWidth ≤ length (now stage) ⌝ }
     requires { ⌜ InfoRule d ⌝ }
     ensures count { λ r. ⌜ r ≡ n + length (pointRecords (clock .0) track (l .0) (passes .0) d) ⌝ }
-    ensures bytes { λ r. ⌜ now (stage .exit) ≡ writeAt (now (stage .entry)) (n * 16) (logBytes (pointRecords (clock .0) track (l .0) (passes .0) d)) ⌝ }
+    ensures bytes { λ r. ⌜ now (stage .exit) ≡ writeAt (now (stage .entry)) (n * recordWidth) (logBytes (pointRecords (clock .0) track (l .0) (passes .0) d)) ⌝ }
 {
     if d == 0 {
         return n;
@@ -92,11 +92,11 @@ fn stage_point(
         track,
         kind: Record::POINT,
         event,
-        detail: command * 16 + target,
+        detail: command * Record::DETAIL + target,
         position: l,
         passes,
     };
-    put_record(r, stage, n * 16);
+    put_record(r, stage, n * Record::WIDTH);
     n + 1
 }
 
@@ -111,10 +111,10 @@ pub(crate) fn stage_change(
     l: Coordinate,
     passes: Passes,
 ) -> usize
-    requires { ⌜ n * 16 + 16 ≤ length (now stage) ⌝ }
+    requires { ⌜ n * recordWidth + recordWidth ≤ length (now stage) ⌝ }
     requires { ⌜ (t .mode ≤ 3) × (new ≤ 3) ⌝ }
     ensures count { λ r. ⌜ r ≡ n + length (changeRecords (clock .0) track t new (l .0) (passes .0)) ⌝ }
-    ensures bytes { λ r. ⌜ now (stage .exit) ≡ writeAt (now (stage .entry)) (n * 16) (logBytes (changeRecords (clock .0) track t new (l .0) (passes .0))) ⌝ }
+    ensures bytes { λ r. ⌜ now (stage .exit) ≡ writeAt (now (stage .entry)) (n * recordWidth) (logBytes (changeRecords (clock .0) track t new (l .0) (passes .0))) ⌝ }
 {
     let mode = t.mode;
     let event = t.action(mode, new);
@@ -126,11 +126,11 @@ pub(crate) fn stage_change(
         track,
         kind: Record::CHANGE,
         event,
-        detail: mode * 16 + new,
+        detail: mode * Record::DETAIL + new,
         position: l,
         passes,
     };
-    put_record(r, stage, n * 16);
+    put_record(r, stage, n * Record::WIDTH);
     n + 1
 }
 
@@ -147,10 +147,10 @@ pub(crate) fn step_member(
     requires { ⌜ Valid t ⌝ }
     requires { ⌜ t .passes .0 ≤ clockEnd ⌝ }
     requires { ⌜ InfoRule d ⌝ }
-    requires { ⌜ n * 16 + 32 ≤ length (now stage) ⌝ }
+    requires { ⌜ n * recordWidth + 2 * recordWidth ≤ length (now stage) ⌝ }
     requires { ⌜ l .0 ≡ arrival t ⌝ }
     ensures staged { λ r. ⌜ r ≡ record { track = step t (waits d); count = n + length (stepRecords (clock .0) track t d) } ⌝ }
-    ensures bytes { λ r. ⌜ now (stage .exit) ≡ writeAt (now (stage .entry)) (n * 16) (logBytes (stepRecords (clock .0) track t d)) ⌝ }
+    ensures bytes { λ r. ⌜ now (stage .exit) ≡ writeAt (now (stage .entry)) (n * recordWidth) (logBytes (stepRecords (clock .0) track t d)) ⌝ }
 {
     let before = t.passes;
     let noted = stage_point(stage, n, clock, track, l, before, d);
@@ -195,9 +195,9 @@ pub(crate) fn stirs(stirred: bool, d: u32, mode: u8) -> bool
 fn command(t: Track, clock: Ticks, d: u32, stage: &mut [u8], n: usize) -> Staged
     requires { ⌜ Valid t ⌝ }
     requires { ⌜ InfoRule d ⌝ }
-    requires { ⌜ n * 16 + 16 ≤ length (now stage) ⌝ }
+    requires { ⌜ n * recordWidth + recordWidth ≤ length (now stage) ⌝ }
     ensures staged { λ r. ⌜ r ≡ record { track = commanded t (gridOf (t .mode) (commandOf d)); count = n + length (commandRecords (clock .0) d t (gridOf (t .mode) (commandOf d))) } ⌝ }
-    ensures bytes { λ r. ⌜ now (stage .exit) ≡ writeAt (now (stage .entry)) (n * 16) (logBytes (commandRecords (clock .0) d t (gridOf (t .mode) (commandOf d)))) ⌝ }
+    ensures bytes { λ r. ⌜ now (stage .exit) ≡ writeAt (now (stage .entry)) (n * recordWidth) (logBytes (commandRecords (clock .0) d t (gridOf (t .mode) (commandOf d)))) ⌝ }
 {
     let mode = t.mode;
     let call = (d / Point::COMMAND % 8) as u8;
@@ -220,11 +220,11 @@ fn command(t: Track, clock: Ticks, d: u32, stage: &mut [u8], n: usize) -> Staged
                 track: target,
                 kind: Record::REFUSAL,
                 event,
-                detail: call * 16 + mode,
+                detail: call * Record::DETAIL + mode,
                 position,
                 passes,
             };
-            put_record(r, stage, n * 16);
+            put_record(r, stage, n * Record::WIDTH);
             Staged {
                 track: t,
                 count: n + 1,
@@ -237,9 +237,9 @@ fn command(t: Track, clock: Ticks, d: u32, stage: &mut [u8], n: usize) -> Staged
 fn obey(t: Track, clock: Ticks, d: u32, stage: &mut [u8], n: usize) -> Staged
     requires { ⌜ ((commandOf d ≡ 0 → ⊥) → Valid t) ⌝ }
     requires { ⌜ InfoRule d ⌝ }
-    requires { ⌜ n * 16 + 16 ≤ length (now stage) ⌝ }
+    requires { ⌜ n * recordWidth + recordWidth ≤ length (now stage) ⌝ }
     ensures staged { λ r. ⌜ r ≡ record { track = obeyed d t; count = n + length (obeyedRecords (clock .0) d t) } ⌝ }
-    ensures bytes { λ r. ⌜ now (stage .exit) ≡ writeAt (now (stage .entry)) (n * 16) (logBytes (obeyedRecords (clock .0) d t)) ⌝ }
+    ensures bytes { λ r. ⌜ now (stage .exit) ≡ writeAt (now (stage .entry)) (n * recordWidth) (logBytes (obeyedRecords (clock .0) d t)) ⌝ }
 {
     if d / Point::COMMAND % 8 == 0 {
         return Staged { track: t, count: n };
@@ -259,10 +259,10 @@ pub(crate) fn run_commands(
 ) -> Commanded
     requires { ⌜ m ≤ length (now reached) ⌝ }
     requires { ⌜ TracksRule present tracks (take m (now reached)) ⌝ }
-    requires { ⌜ (n + m) * 16 ≤ length (now stage) ⌝ }
+    requires { ⌜ (n + m) * recordWidth ≤ length (now stage) ⌝ }
     ensures tracks { λ r. ⌜ r .tracks ≡ runAll (clock .0) (take m (now (reached .entry))) (staged tracks [] []) .tracks ⌝ }
     ensures count { λ r. ⌜ r .count ≡ n + length (runAll (clock .0) (take m (now (reached .entry))) (staged tracks [] []) .records) ⌝ }
-    ensures bytes { λ r. ⌜ now (stage .exit) ≡ writeAt (now (stage .entry)) (n * 16) (logBytes (runAll (clock .0) (take m (now (reached .entry))) (staged tracks [] []) .records)) ⌝ }
+    ensures bytes { λ r. ⌜ now (stage .exit) ≡ writeAt (now (stage .entry)) (n * recordWidth) (logBytes (runAll (clock .0) (take m (now (reached .entry))) (staged tracks [] []) .records)) ⌝ }
     ensures word { λ r. ⌜ r .word ≡ playingWord present (r .tracks) ⌝ }
 {
     let mut next = tracks;

@@ -7,13 +7,13 @@ use Rattle.track.specs.declared.setup.Answer.{Answer}
 use Rattle.track.specs.declared.setup.Answer.the-variants as answer
 use Rattle.board.specs.declared.Board.{Board}
 use Rattle.board.specs.declared.setup.Outcome.{Outcome}
-use Rattle.board.specs.Board.{trackCount}
 use Rattle.board.specs.Setup.{boardWith}
 use Rattle.board.specs.Mode.{Follows, modeRuling}
 use Rattle.board.specs.declared.call.Call.{Call}
 use Rattle.board.specs.Call.{Reply, accepted, refused, done, logFull, clockEnded, Gives, does, world}
 use Rattle.firmware.specs.declared.value.Answered.{Answered}
 use Rattle.firmware.specs.declared.value.Ending.{Ending}
+use Rattle.board.specs.Points.{trackCount}
 
 -- a mode call's answer: 0 accepted, else the refusal's number
 abbrev pub numberOf : Answer → ℕ

@@ -25,7 +25,7 @@ use Rattle.board.specs.declared.call.Advanced.{Advanced}
 use Rattle.board.specs.declared.call.Advanced.the-variants as advanced
 use Rattle.board.specs.Log.{writeAt, recordWidth, logBytes, capacity}
 use Rattle.board.specs.Board.{unbrokenParts, unbrokenTest, pointsTest, tracksTest, shapeTest, trackAt}
-use Rattle.board.specs.Points.{pointMost, keysOf, infosOf}
+use Rattle.board.specs.Points.{pointMost, keysOf, infosOf, trackCount}
 use Rattle.board.specs.Tick.{Stage, staged, tickFrom, playingWord, members}
 use Rattle.board.specs.Quiet.{Each, Calm, Leapable, leapTracks, leapInto}
 use Rattle.board.specs.Cut.{Ran, Did, ticks, counted, sorted}
@@ -72,9 +72,9 @@ pub record Going (b : Board) (count : ℕ) (log₀ log : List ℕ) (ts : List Tr
   pub whole : unbrokenTest (boardAt b ts clock held) ≡ true
   pub fits : held ≤ capacity (length log₀)
   pub long : length log ≡ length log₀
-  pub tracks-long : length ts ≡ 16
+  pub tracks-long : length ts ≡ trackCount
 
-pub going-start : (b : Board) (count : ℕ) (log : List ℕ) → unbrokenTest b ≡ true → b .held ≤ capacity (length log) → length (b .tracks) ≡ 16 →
+pub going-start : (b : Board) (count : ℕ) (log : List ℕ) → unbrokenTest b ≡ true → b .held ≤ capacity (length log) → length (b .tracks) ≡ trackCount →
     Going b count log log (b .tracks) (b .clock .0) (b .held) 0 (advanced.Done (record { 0 = 0 }))
 going-start b count log h f l =
     record {
@@ -157,7 +157,7 @@ module _ (b : Board) (count : ℕ) (log₀ log : List ℕ) (ts : List Track) (cl
   pub going-tick : taken < count → clock < clockEnd → {next : List Track} {total : ℕ} {log′ : List ℕ} →
       next ≡ stageOf b log ts clock held .tracks → total ≡ length (stageOf b log ts clock held .records) →
       total ≤ capacity (length log₀) - held → log′ ≡ writeAt log (held * recordWidth) (logBytes (stageOf b log ts clock held .records)) →
-      length log′ ≡ length log → length next ≡ 16 →
+      length log′ ≡ length log → length next ≡ trackCount →
       Going b count log₀ log′ next (clock + 1) (held + total) (taken + 1) (advanced.Done (record { 0 = taken + 1 }))
   going-tick l c {next} {total} {log′} en et room el long16 ln =
       let fit : held + length (stageOf b log ts clock held .records) ≤ capacity (length log) = rw (g .long) (omega (arith, g .fits)) in
@@ -179,7 +179,7 @@ module _ (b : Board) (count : ℕ) (log₀ log : List ℕ) (ts : List Track) (cl
 
 -- ---- a leap over quiet ticks
 
-module _ (b : Board) (log : List ℕ) (ts : List Track) (clock held r : ℕ) (l : length ts ≡ 16)
+module _ (b : Board) (log : List ℕ) (ts : List Track) (clock held r : ℕ) (l : length ts ≡ trackCount)
     (able : Leapable ts (members (playingWord (b .present) ts)))
     (calm : Each (λ i. Calm (keysOf (b .points)) r i (trackAt ts i)) (members (playingWord (b .present) ts)))
     (fit : held ≤ capacity (length log)) where
@@ -230,7 +230,7 @@ calm-none ks ts [] = tt
 calm-none ks ts (i ∷ is) = (λ j h. absurd (omega arith), calm-none ks ts is)
 
 -- what the code leaps, by the word that it keeps
-pub leap-is : (k present word : ℕ) (ts : List Track) → word ≡ playingWord present ts → length ts ≡ 16
+pub leap-is : (k present word : ℕ) (ts : List Track) → word ≡ playingWord present ts → length ts ≡ trackCount
     → leapInto k ts (members word) ts ≡ leapTracks k present ts
 leap-is k present word ts e l = ap (λ (w : ℕ). leapInto k ts (members w) ts) e ∙ leap-into k present ts l
 

@@ -11,7 +11,7 @@ use lib.Dec.{eqb}
 use lib.ListN.{length}
 use Rattle.track.specs.declared.Track.{Track}
 use Rattle.track.specs.Rule.{clockEnd}
-use Rattle.board.specs.Points.{keysOf, infosOf}
+use Rattle.board.specs.Points.{keysOf, infosOf, trackCount}
 use Rattle.board.specs.declared.Board.{Board}
 use Rattle.board.specs.Cut.{Ran, ticks}
 use Rattle.board.specs.Replay.{World, w-halt, w-step}
@@ -33,7 +33,7 @@ one false = omega arith
 -- So a loop with `left` ticks to do goes round at most three times for each record that these ticks write, and 18 times more, however
 -- many they are: sixteen tracks play at most. A turn in which it is left comes behind.
 pub turns-bound : (look : Bool) (left : ℕ) (u : World Board) → turnsLeft look left u ≤ 3 * written left u + 18
-turns-bound look left u = omega (arith, members-most 16 0 (playingWord (u .board .present) (u .board .tracks)), one look)
+turns-bound look left u = omega (arith, members-most trackCount 0 (playingWord (u .board .present) (u .board .tracks)), one look)
 
 -- ticks take no record back
 held-grows : (n : ℕ) (u : World Board) → u .board .held ≤ go n u .end .board .held

@@ -13,9 +13,9 @@ use Rattle.track.specs.Walk.{arrival, step}
 use Rattle.board.specs.declared.Board.{Board}
 use Rattle.board.specs.declared.log.Record.{Record}
 use Rattle.board.specs.Log.{writeAt, recordWidth, logBytes}
-use Rattle.board.specs.Points.{ascendingFrom, key, keysOf, infosOf, waits, commandOf, targetOf}
+use Rattle.board.specs.Points.{ascendingFrom, key, keysOf, infosOf, waits, commandOf, targetOf, trackCount}
 use Rattle.board.specs.Board.{noTrack, trackAt, isPresent, pointsTest}
-use Rattle.board.specs.Tick.{Stage, staged, stepRecords, reachedBy, foundBy, stepMember, stepAll, runAll, tickFrom, playingWord, InfoRule, TracksRule}
+use Rattle.board.specs.Tick.{Stage, staged, stepRecords, reachedBy, foundBy, stepMember, stepAll, runAll, tickFrom, playingWord, InfoRule, TracksRule, tickMost}
 use Rattle.board.specs.Tick.{members}
 use Rattle.board.specs.Quiet.{Each, Able, Leapable}
 use Rattle.board.proofs.points.Keys.{ascending-head, ascending-rest}
@@ -67,18 +67,18 @@ pub record Stepping (b : Board) (ts : List Track) (clock word : ℕ) (stage reac
   pub small : rest < 65536
   pub able : Leapable next (members rest)
   pub rule : TracksRule (b .present) next (take m reached)
-  pub few-records : count + 2 * left ≤ 32
-  pub few-reached : m + left ≤ 16
-  pub next-long : length next ≡ 16
-  pub stage-long : length stage ≡ 768
-  pub reached-long : length reached ≡ 16
+  pub few-records : count + 2 * left ≤ 2 * trackCount
+  pub few-reached : m + left ≤ trackCount
+  pub next-long : length next ≡ trackCount
+  pub stage-long : length stage ≡ tickMost * recordWidth
+  pub reached-long : length reached ≡ trackCount
 
 pub stepping-start : (b : Board) (ts : List Track) (clock word : ℕ) (stage reached : List ℕ) → word < 65536 → Leapable ts (members word) →
-    ((i : ℕ) → isPresent (b .present) i ≡ true → Valid (trackAt ts i)) → length ts ≡ 16 → length stage ≡ 768 → length reached ≡ 16 →
+    ((i : ℕ) → isPresent (b .present) i ≡ true → Valid (trackAt ts i)) → length ts ≡ trackCount → length stage ≡ tickMost * recordWidth → length reached ≡ trackCount →
     Stepping b ts clock word stage reached ts word (ones word) 0 0
 unfolding logBytes
 stepping-start b ts clock word stage reached w a v l s r =
-    let few : ones word ≤ 16 = omega (arith, members-count word w, members-most 16 0 word) in
+    let few : ones word ≤ trackCount = omega (arith, members-count word w, members-most trackCount 0 word) in
     record {
       records = [];
       work = refl;
@@ -129,7 +129,7 @@ module _ (b : Board) (ts : List Track) (clock word : ℕ) (stage reached : List 
       let one = reached-most d in
       let fewer = low .fewer in
       let able = subst (λ (is : List ℕ). Leapable next is) (low .rest) (s .able) in
-      let ascends = subst (λ (is : List ℕ). ascendingFrom 0 is ≡ true) (low .rest) (members-ascend 16 0 rest) in
+      let ascends = subst (λ (is : List ℕ). ascendingFrom 0 is ≡ true) (low .rest) (members-ascend trackCount 0 rest) in
       let width : count′ * recordWidth ≡ count * recordWidth + length (logBytes rs) = omega (arith, length-log rs) in
       let lrs = s .left-is in
       record {
@@ -187,7 +187,7 @@ module _ (b : Board) (ts : List Track) (clock word : ℕ) (ew : word ≡ playing
       total ≡ count + length (recordsRun (clock + 1) (take m reached) next) →
       stage′ ≡ writeAt stage (count * recordWidth) (logBytes (recordsRun (clock + 1) (take m reached) next)) →
       (after ≡ tick .tracks) × (total ≡ length (tick .records)) × (take (total * recordWidth) stage′ ≡ logBytes (tick .records))
-      × (length stage′ ≡ 768)
+      × (length stage′ ≡ tickMost * recordWidth)
   unfolding tickFrom stepAll
   stepping-done h {after} {total} {stage′} ea et es =
       let rs = recordsRun (clock + 1) (take m reached) next in

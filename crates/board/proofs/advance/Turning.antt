@@ -16,9 +16,9 @@ use Rattle.track.specs.Walk.{step}
 use Rattle.track.specs.Leap.{leap}
 use Rattle.board.specs.declared.Board.{Board}
 use Rattle.board.specs.Log.{writeAt, recordWidth, logBytes}
-use Rattle.board.specs.Points.{ascendingFrom, keysOf, infosOf, waits, commandOf}
+use Rattle.board.specs.Points.{ascendingFrom, keysOf, infosOf, waits, commandOf, trackCount}
 use Rattle.board.specs.Board.{noTrack, trackAt, isPresent, pointsTest}
-use Rattle.board.specs.Tick.{Stage, staged, stirring, stepRecords, reachedBy, foundBy, runCommand, runAll, tickFrom, playBit, playingWord, TracksRule}
+use Rattle.board.specs.Tick.{Stage, staged, stirring, stepRecords, reachedBy, foundBy, runCommand, runAll, tickFrom, playBit, playingWord, TracksRule, tickMost}
 use Rattle.board.specs.Tick.{members}
 use Rattle.board.specs.Quiet.{Each, Able, Leapable, leapInto, leapTracks}
 use Rattle.board.proofs.points.Keys.{ascending-head, ascending-rest}
@@ -122,13 +122,13 @@ each-ready ts (i ∷ is) a p = (record { able = a .0; plays = p .0 }, each-ready
 pub record Turning (b : Board) (ts : List Track) (clock word calm : ℕ) (stage reached : List ℕ) (next : List Track) (rest left count m : ℕ) (stirred : Bool) : Type 0 where
   pub steps : Stepping b (leapTracks calm (b .present) ts) clock word stage reached (leapInto calm next (members rest) next) rest left count m
   pub ready : Each (λ i. Ready (trackAt next i)) (members rest)
-  pub long : length next ≡ 16
+  pub long : length next ≡ trackCount
   pub same-word : stirred ≡ false → word ≡ playingWord (b .present) next
   pub no-command : stirred ≡ false → Each (λ d. commandOf d ≡ 0) (take m reached)
 
-pub turning-start : (b : Board) (ts : List Track) (clock word calm : ℕ) (stage reached : List ℕ) → word ≡ playingWord (b .present) ts → length ts ≡ 16 →
+pub turning-start : (b : Board) (ts : List Track) (clock word calm : ℕ) (stage reached : List ℕ) → word ≡ playingWord (b .present) ts → length ts ≡ trackCount →
     Leapable ts (members word) → Leapable (leapTracks calm (b .present) ts) (members (playingWord (b .present) (leapTracks calm (b .present) ts))) →
-    ((i : ℕ) → isPresent (b .present) i ≡ true → Valid (trackAt (leapTracks calm (b .present) ts) i)) → length stage ≡ 768 → length reached ≡ 16 →
+    ((i : ℕ) → isPresent (b .present) i ≡ true → Valid (trackAt (leapTracks calm (b .present) ts) i)) → length stage ≡ tickMost * recordWidth → length reached ≡ trackCount →
     Turning b ts clock word calm stage reached ts word (ones word) 0 0 false
 unfolding Each
 turning-start b ts clock word calm stage reached ew l able able′ valid s r =
@@ -160,7 +160,7 @@ module _ (b : Board) (ts : List Track) (clock word calm : ℕ) (stage reached : 
     above : ascendingFrom (suc i) (members (cleared rest)) ≡ true
     above =
         ascending-rest 0 i (members (cleared rest))
-        (subst (λ (is : List ℕ). ascendingFrom 0 is ≡ true) (turning-member .rest) (members-ascend 16 0 rest))
+        (subst (λ (is : List ℕ). ascendingFrom 0 is ≡ true) (turning-member .rest) (members-ascend trackCount 0 rest))
 
     readies : Each (λ j. Ready (trackAt next j)) (i ∷ members (cleared rest))
     readies = subst (Each (λ j. Ready (trackAt next j))) (turning-member .rest) (s .ready)
@@ -229,7 +229,7 @@ pub record Ticked (b : Board) (ts : List Track) (clock : ℕ) (after : List Trac
   pub tracks : after ≡ tickFrom (keysOf (b .points)) (infosOf (b .points)) (clock + 1) (b .present) ts .tracks
   pub count : total ≡ length (tickFrom (keysOf (b .points)) (infosOf (b .points)) (clock + 1) (b .present) ts .records)
   pub bytes : take (total * recordWidth) stage ≡ logBytes (tickFrom (keysOf (b .points)) (infosOf (b .points)) (clock + 1) (b .present) ts .records)
-  pub stage-long : length stage ≡ 768
+  pub stage-long : length stage ≡ tickMost * recordWidth
   pub word-is : word ≡ playingWord (b .present) after
 
 module _ (b : Board) (ts : List Track) (clock word calm : ℕ) (ew : word ≡ playingWord (b .present) ts) (stage reached : List ℕ) (next : List Track)

@@ -15,7 +15,7 @@ use Rattle.board.specs.declared.log.Record.{Record}
 use Rattle.board.specs.Board.{noTrack, trackAt}
 use Rattle.board.specs.Tick.{keep, members}
 use Rattle.board.specs.Tick.{pointRecords, playBit, playingWord, Stage, staged, foundBy, stepRecords, reachedBy, stepMember, stepAll, obeyed, runCommand, runAll, tickFrom}
-use Rattle.board.specs.Points.{waits, targetOf}
+use Rattle.board.specs.Points.{waits, targetOf, trackCount}
 use Rattle.board.specs.Quiet.{Some, Telling, Fewest, Leapable, whereSet, leapTracks}
 use Rattle.board.proofs.points.Keys.{lt-or-ge}
 use Rattle.board.proofs.tick.PlayingLaws.{bit-small}
@@ -43,7 +43,7 @@ players-count n present (t ∷ ts) =
     go (suc d) h is e = omega arith
 
 -- there are as many as the playing word has members
-members-playCount : (present : ℕ) (ts : List Track) → length ts ≡ 16 → length (members (playingWord present ts)) ≡ playCount present ts
+members-playCount : (present : ℕ) (ts : List Track) → length ts ≡ trackCount → length (members (playingWord present ts)) ≡ playCount present ts
 members-playCount present ts l = ap length (members-playing present ts l) ∙ players-count 0 present ts
 
 -- one track more at most plays, whatever is put in a track's place
@@ -191,7 +191,7 @@ run-count clock present (d ∷ ds) s =
 
 -- ---- a tick
 
-module _ (ks ds : List ℕ) (clock present : ℕ) (ts : List Track) (l : length ts ≡ 16) where
+module _ (ks ds : List ℕ) (clock present : ℕ) (ts : List Track) (l : length ts ≡ trackCount) where
   abbrev stepped : Stage
   stepped = stepAll ks ds clock (members (playingWord present ts)) (staged ts [] [])
 
@@ -244,7 +244,7 @@ module _ (ks ds : List ℕ) (clock present : ℕ) (ts : List Track) (l : length 
   tick-fewer h s = omega (arith, before, behind, count-fewer h (some-playing Stops present ts l s))
 
 -- after all quiet ticks, the next writes a record or leaves fewer playing
-pub walked-tick : (ks ds : List ℕ) (clock present : ℕ) (ts : List Track) → length ts ≡ 16 → Leapable ts (members (playingWord present ts))
+pub walked-tick : (ks ds : List ℕ) (clock present : ℕ) (ts : List Track) → length ts ≡ trackCount → Leapable ts (members (playingWord present ts))
     → Telling ks ds → (a r : ℕ) → Fewest ks ts (members (playingWord present ts)) a r → r < a
     → (0 < length (tickFrom ks ds clock present (leapTracks r present ts) .records))
     ⊎ (length (members (playingWord present (tickFrom ks ds clock present (leapTracks r present ts) .tracks))) < length (members (playingWord present ts)))

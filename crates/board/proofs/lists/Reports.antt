@@ -18,7 +18,7 @@ use Rattle.board.specs.declared.Board.{Board}
 use Rattle.board.specs.declared.log.Record.{Record}
 use Rattle.board.specs.declared.call.Call.{Call}
 use Rattle.board.specs.declared.call.Call.the-variants as call
-use Rattle.board.specs.Points.{ascendingFrom, keysOf, infosOf, waits, commandOf, targetOf}
+use Rattle.board.specs.Points.{ascendingFrom, keysOf, infosOf, waits, commandOf, targetOf, trackCount}
 use Rattle.board.specs.Board.{trackAt, noTrack}
 use Rattle.board.specs.Tick.{members}
 use Rattle.board.specs.Tick.{Stage, pointRecords, changeRecords, foundBy, stepRecords, reachedBy, stepMember}
@@ -119,7 +119,7 @@ tick-points b =
     ∙ only-append isPoint (s .records) (recordsRun (clock b) (s .reached) (s .tracks))
     ∙ ap (λ (l : List Record). only isPoint (s .records) ++ l) (commands-none (clock b) (s .reached) (s .tracks))
     ∙ append-nil (only isPoint (s .records))
-    ∙ steps-points b 0 (members word) (b .tracks) (members-ascend 16 0 word) (λ j _. refl)
+    ∙ steps-points b 0 (members word) (b .tracks) (members-ascend trackCount 0 word) (λ j _. refl)
 
 mode-none : (b : Board) (n : ℕ) (track : ℤ) (code : ℕ) → only isPoint (modeRuling b n track code .records) ≡ []
 mode-none b n =

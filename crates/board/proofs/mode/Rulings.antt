@@ -12,7 +12,7 @@ use Rattle.track.specs.declared.Track.{Track}
 use Rattle.track.specs.declared.setup.Answer.the-variants.{Accepted, Refused}
 use Rattle.track.specs.Rule.{actionCell, entered}
 use Rattle.track.proofs.Tests.{cond-yes, cond-no}
-use Rattle.board.specs.Log.{writeAt, recordWidth, logBytes, capacity}
+use Rattle.board.specs.Log.{writeAt, recordWidth, logBytes, capacity, detailUnit}
 use Rattle.board.specs.declared.Board.{Board}
 use Rattle.board.specs.declared.log.Record.{Record}
 use Rattle.board.specs.declared.setup.Outcome.{Outcome}
@@ -60,7 +60,7 @@ module _ (b : Board) (n i mode : ℕ) where
   abbrev pub noteOf : ℕ → Record
   noteOf event =
       let t = trackAt (b .tracks) i in
-      recordOf (b .clock .0) i 2 event (t .mode * 16 + mode) (t .position .0) (t .passes .0)
+      recordOf (b .clock .0) i 2 event (t .mode * detailUnit + mode) (t .position .0) (t .passes .0)
 
   silent : cell ≡ 0 → callRecords b i mode ≡ []
   unfolding changeRecords

@@ -17,7 +17,7 @@ use Rattle.track.specs.Rule.{STOPPED, PLAYING, PAUSED, WAITING, stopped, entere
 use Rattle.track.specs.Grid.{PLAY, PAUSE, RESUME, STOP, gridOf}
 use Rattle.track.specs.Walk.{arrival, stops, visited, step}
 use Rattle.track.proofs.Tests.{cond-cases, both, refuted}
-use Rattle.board.specs.Points.{ascendingFrom, key, keysOf, infosOf, infoAt, hasKey, waits, commandOf, targetOf}
+use Rattle.board.specs.Points.{ascendingFrom, key, keysOf, infosOf, infoAt, hasKey, waits, commandOf, targetOf, trackCount}
 use Rattle.board.proofs.points.Keys.{same-or-not, ascending-head, ascending-rest}
 use Rattle.board.specs.declared.Board.{Board}
 use Rattle.board.specs.Board.{trackAt, noTrack, isPresent, Unbroken}
@@ -119,7 +119,7 @@ all-playing Q n word (t ∷ ts) f = (
 )
 
 -- a member of the playing word is PLAYING, and present
-plays-is : (b : Board) (i : ℕ) → length (b .tracks) ≡ 16 → plays b i ≡ true
+plays-is : (b : Board) (i : ℕ) → length (b .tracks) ≡ trackCount → plays b i ≡ true
     → (trackAt (b .tracks) i .mode ≡ PLAYING) × (isPresent (b .present) i ≡ true)
 plays-is b i l =
     each-has (λ k. (trackAt (b .tracks) k .mode ≡ PLAYING) × (isPresent (b .present) k ≡ true)) i (members (playingWord (b .present) (b .tracks)))
@@ -283,8 +283,8 @@ module _ (b : Board) (whole : Unbroken b) (i : ℕ) where
       let s = stepsFrom (ks b) (ps b) (clock b) (members word) (b .tracks) in
       let l : i < length (b .tracks) = omega (arith, present-small (b .present) i h, whole .shape .tracks) in
       let m : i < length (s .tracks) = rw (steps-long (ks b) (ps b) (clock b) (members word) (staged (b .tracks) [] [])) l in
-      let own = steps-at (ks b) (ps b) (clock b) i 0 (members word) (staged (b .tracks) [] []) (members-ascend 16 0 word) l in
-      let reached = steps-reached b 0 (members word) (b .tracks) (members-ascend 16 0 word) (λ j _. refl) in
+      let own = steps-at (ks b) (ps b) (clock b) i 0 (members word) (staged (b .tracks) [] []) (members-ascend trackCount 0 word) l in
+      let reached = steps-reached b 0 (members word) (b .tracks) (members-ascend trackCount 0 word) (λ j _. refl) in
       let end = ap (λ (x : Stage). trackAt (x .tracks) i .mode) (run-apart (clock b) (s .reached) (s .tracks) (s .records) (s .reached)) in
       path-append (before .mode) (stepped .mode) _ (cond (plays b i) (stepActs before (infoMet b i)) []) (commandActs i (reachedIn b) stepped) own-path
       (subst (Path (stepped .mode) (commandActs i (reachedIn b) stepped)) (sym end)

@@ -15,7 +15,7 @@ use Rattle.track.specs.Rule.{clockEnd, Valid, Sound}
 use Rattle.track.specs.Leap.{leap}
 use Rattle.track.proofs.Leaps.{leap-zero, leap-add}
 use Rattle.board.specs.declared.Board.{Board}
-use Rattle.board.specs.Points.{keysOf, infosOf, firstFrom, pointOf}
+use Rattle.board.specs.Points.{keysOf, infosOf, firstFrom, pointOf, trackCount}
 use Rattle.board.specs.Board.{noTrack, trackAt, isPresent, Unbroken}
 use Rattle.board.specs.Tick.{members, playBit, playingWord}
 use Rattle.board.specs.Quiet.{Telling, Able, Leapable, leapInto, whereSet, leapTracks}
@@ -51,7 +51,7 @@ into-list k n present pre us (t ∷ ts) l l′ =
     (playBit (present % 2) t) refl
 
 -- the members of the playing word leapt in their places are the playing tracks leapt
-pub leap-into : (k present : ℕ) (ts : List Track) → length ts ≡ 16
+pub leap-into : (k present : ℕ) (ts : List Track) → length ts ≡ trackCount
     → leapInto k ts (members (playingWord present ts)) ts ≡ leapTracks k present ts
 leap-into k present ts l = ap (λ (ms : List ℕ). leapInto k ts ms ts) (members-playing present ts l) ∙ into-list k 0 present [] [] ts refl refl
 
@@ -131,7 +131,7 @@ add-list a b n present [] f = refl
 add-list a b n present (t ∷ ts) f =
     ap₂ (λ (x : Track) (xs : List Track). x ∷ xs) (head-add a b (present % 2) t (f .0)) (add-list a b (suc n) (present / 2) ts (f .1))
 
-module _ (present : ℕ) (ts : List Track) (l : length ts ≡ 16) (able : Leapable ts (members (playingWord present ts))) where
+module _ (present : ℕ) (ts : List Track) (l : length ts ≡ trackCount) (able : Leapable ts (members (playingWord present ts))) where
   -- playing tracks that can be leapt are valid
   pub able-valid : EachPlaying (λ n t. Valid t) 0 present ts
   able-valid = each-implies (λ n t. Able t) (λ n t. Valid t) (λ n t a. a .valid) 0 present ts (each-playing (λ n t. Able t) present ts l able)
@@ -156,7 +156,7 @@ each-present P n present (t ∷ ts) f = (
 )
 
 -- the playing ones, where the present ones keep the rules
-pub sound-able : (present : ℕ) (ts : List Track) (clock : Ticks) → length ts ≡ 16 → clock .0 ≤ clockEnd
+pub sound-able : (present : ℕ) (ts : List Track) (clock : Ticks) → length ts ≡ trackCount → clock .0 ≤ clockEnd
     → ((i : ℕ) → isPresent present i ≡ true → Sound (trackAt ts i) clock) → Leapable ts (members (playingWord present ts))
 sound-able present ts clock l c f =
     each-member (λ n t. Able t) present ts l

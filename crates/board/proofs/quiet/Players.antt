@@ -16,6 +16,7 @@ use Rattle.track.specs.Rule.{PLAYING}
 use Rattle.board.specs.Board.{noTrack, trackAt}
 use Rattle.board.specs.Tick.{keep, membersFrom, members, playBit, playingWord}
 use Rattle.board.specs.Quiet.{Each, Some}
+use Rattle.board.specs.Points.{trackCount}
 
 -- the playing tracks of ts, the first of which has the number n; `present` is the word of those present
 unfoldable pub EachPlaying : (ℕ → Track → Type 0) → ℕ → ℕ → List Track → Type 0
@@ -58,7 +59,7 @@ word-below present (t ∷ ts) =
     omega arith
 
 -- the playing word of 16 tracks has 16 bits
-pub word-small : (present : ℕ) (ts : List Track) → length ts ≡ 16 → playingWord present ts < 65536
+pub word-small : (present : ℕ) (ts : List Track) → length ts ≡ trackCount → playingWord present ts < 65536
 word-small present ts l = rw l at (word-below present ts)
 
 players-from : (n present : ℕ) (ts : List Track) → membersFrom (length ts) n (playingWord present ts) ≡ players n present ts
@@ -72,7 +73,7 @@ players-from n present (t ∷ ts) =
     rw (e₁, e₂, players-from (suc n) (present / 2) ts)
 
 -- the members of the playing word are the numbers of the playing tracks
-pub members-playing : (present : ℕ) (ts : List Track) → length ts ≡ 16 → members (playingWord present ts) ≡ players 0 present ts
+pub members-playing : (present : ℕ) (ts : List Track) → length ts ≡ trackCount → members (playingWord present ts) ≡ players 0 present ts
 members-playing present ts l = rw l at (players-from 0 present ts)
 
 -- ---- from the members to the list, and back
@@ -161,7 +162,7 @@ module _ (P : ℕ → Track → Type 0) where
       head-some n present pre t ts l (playBit (present % 2) t) refl
       (λ b. rw (append-snoc pre t ts) at (list-some (suc n) (present / 2) (pre ++ (t ∷ [])) ts (longer pre t l) b)) a
 
-  module _ (present : ℕ) (ts : List Track) (l : length ts ≡ 16) where
+  module _ (present : ℕ) (ts : List Track) (l : length ts ≡ trackCount) where
     -- what holds of every member's track holds of every playing track
     pub each-playing : Each (On ts) (members (playingWord present ts)) → EachPlaying P 0 present ts
     each-playing a = each-list 0 present [] ts refl (rw (members-playing present ts l) at a)

@@ -14,7 +14,7 @@ use Rattle.track.specs.Walk.{arrival, passesAt, stops, visited, step}
 use Rattle.track.specs.Leap.{leap}
 use Rattle.track.proofs.Leaps.{leap-zero, leap-suc, leap-valid}
 use Rattle.board.specs.declared.log.Record.{Record}
-use Rattle.board.specs.Points.{key, waits}
+use Rattle.board.specs.Points.{key, waits, trackCount}
 use Rattle.board.specs.Board.{noTrack, trackAt}
 use Rattle.board.specs.Tick.{keep, members}
 use Rattle.board.specs.Tick.{pointRecords, changeRecords, playBit, playingWord, Stage, staged, foundBy, stepRecords, reachedBy, stepMember, stepAll, runAll, tickFrom}
@@ -106,7 +106,7 @@ module _ (ks ds : List ℕ) (clock : ℕ) where
       ∙ ap (λ (us : List Track). staged us [] []) (append-snoc pre y (leapTracks 1 (present / 2) ts)))
       (playBit (present % 2) t) refl (a .0)
 
-  tick-list : (present : ℕ) (ts : List Track) → length ts ≡ 16 → EachPlaying Still 0 present ts
+  tick-list : (present : ℕ) (ts : List Track) → length ts ≡ trackCount → EachPlaying Still 0 present ts
       → tickFrom ks ds clock present ts ≡ staged (leapTracks 1 present ts) [] []
   unfolding tickFrom runAll
   tick-list present ts l a =
@@ -181,7 +181,7 @@ module _ (ks ds : List ℕ) (clock : ℕ) where
         (λ y rs′ qs′ b. rw (append-snoc pre y ts) at (loud-list (suc n) (present / 2) (pre ++ (y ∷ [])) ts (longer pre y l) rs′ qs′ b))
         (playBit (present % 2) t) refl a
 
-    tick-loud : (present : ℕ) (ts : List Track) → length ts ≡ 16 → SomePlaying Loud 0 present ts
+    tick-loud : (present : ℕ) (ts : List Track) → length ts ≡ trackCount → SomePlaying Loud 0 present ts
         → (0 < length (tickFrom ks ds clock present ts .records)) ⊎ SomePlaying Stops 0 present ts
     unfolding tickFrom
     tick-loud present ts l a =
@@ -192,7 +192,7 @@ module _ (ks ds : List ℕ) (clock : ℕ) where
 
 -- ---- the laws that an advance uses
 
-module _ (ks ds : List ℕ) (present : ℕ) (ts : List Track) (l : length ts ≡ 16) (able : Leapable ts (members (playingWord present ts))) where
+module _ (ks ds : List ℕ) (present : ℕ) (ts : List Track) (l : length ts ≡ trackCount) (able : Leapable ts (members (playingWord present ts))) where
   abbrev word : ℕ
   word = playingWord present ts
 

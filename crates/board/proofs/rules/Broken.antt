@@ -16,8 +16,8 @@ use Rattle.track.proofs.Tests.{both, both-is}
 use Rattle.track.proofs.Checks.{sound-of, sound-is}
 use Rattle.board.specs.declared.Board.{Board}
 use Rattle.board.specs.declared.points.Point.{Point}
-use Rattle.board.specs.Points.{pointMost, ascendingFrom, pointOf}
-use Rattle.board.specs.Board.{trackCount, eventMost, trackAt, isPresent, PointRule, Shaped, Unbroken, tracksTest, placeTest, deedTest, pointsTest, shapeTest, unbrokenParts, unbrokenTest}
+use Rattle.board.specs.Points.{pointMost, ascendingFrom, pointOf, trackCount}
+use Rattle.board.specs.Board.{eventMost, trackAt, isPresent, PointRule, Shaped, Unbroken, tracksTest, placeTest, deedTest, pointsTest, shapeTest, unbrokenParts, unbrokenTest}
 
 -- ---- presence
 

@@ -17,7 +17,7 @@ use Rattle.track.specs.declared.number.Natural.the-variants as natural
 use Rattle.track.specs.Number.{naturalOf}
 use Rattle.board.specs.declared.points.Point.{Point}
 use Rattle.board.specs.Board.{foundIn}
-use Rattle.board.specs.Points.{pointMost, stride, pointOf, eventOf, waitOf, commandOf, targetOf}
+use Rattle.board.specs.Points.{pointMost, stride, pointOf, eventOf, waitOf, commandOf, targetOf, keyEnd, infoEnd}
 use Rattle.board.specs.Board.{eventMost, noTrack, trackAt, isPresent, tracksTest, placeTest, deedTest, pointsTest, shapeTest, unbrokenParts}
 use Rattle.board.proofs.rules.Broken.{present-not}
 
@@ -117,12 +117,12 @@ module _ (present : ℕ) (ts : List Track) (lo k d : ℕ) (ks ds : List ℕ) whe
   unable h = simp (h, and-false)
 
   -- a key past the sixteenth track, or an info past the sixteenth target, breaks the rules
-  pub points-track : stride * 16 ≤ k → false ≡ All
+  pub points-track : keyEnd ≤ k → false ≡ All
   unfolding placeTest pointOf
   points-track h =
       misplaced (simp (← present-not present (k / stride) (omega arith)))
 
-  pub points-target : 16777216 ≤ d → false ≡ All
+  pub points-target : infoEnd ≤ d → false ≡ All
   unfolding deedTest pointOf
   points-target h =
       unable

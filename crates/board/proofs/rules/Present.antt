@@ -11,7 +11,8 @@ use borrow.Author.Tests.{eqb-false, eqb-true}
 use Rattle.track.specs.Number.{naturalOf, onNatural}
 use Rattle.track.specs.declared.number.Natural.{Natural}
 use Rattle.track.specs.declared.number.Natural.the-variants as natural
-use Rattle.board.specs.Board.{trackCount, isPresent, foundIn}
+use Rattle.board.specs.Board.{isPresent, foundIn}
+use Rattle.board.specs.Points.{trackCount}
 use Rattle.board.proofs.rules.Broken.{present-bit, present-small, half-bit}
 
 Present? : ℕ → Natural → Type 0

@@ -31,7 +31,7 @@ use Rattle.board.specs.declared.setup.Drawn.the-variants as drawn
 use Rattle.track.specs.Rule.{coordinateLast}
 use Rattle.track.proofs.Numbers.{between-clamped, clamped-most, natural-in, within-in, back}
 use Rattle.track.proofs.Tests.{both, both-is, same-tests}
-use Rattle.board.specs.Points.{stride, keysOf, infosOf, infoAt, pointOf, countOf, between, commandOf, targetOf}
+use Rattle.board.specs.Points.{stride, keysOf, infosOf, infoAt, pointOf, countOf, between, commandOf, targetOf, keyEnd, infoEnd}
 use Rattle.board.specs.Query.{inRange, pointRead}
 use Rattle.board.specs.Setup.{drawnFrom, ableOnly, pointWith, accepted, refused, boardWith, putPoints, onDrawn}
 use Rattle.board.specs.declared.Board.{Board}
@@ -91,7 +91,7 @@ drawn-rule present i ts position event wait command target h e =
 module _ (b : Board) (u : Unbroken b) where
   -- a coordinate of a point is at most that of position 1,000,000, its track's number below 16, its info below 2^24
   pub point-small : (j : ℕ) → j < b .points .count →
-      (getD (b .points .keys) j 0 % stride ≤ coordinateLast) × (getD (b .points .keys) j 0 < 33554432) × (getD (b .points .infos) j 0 < 16777216)
+      (getD (b .points .keys) j 0 % stride ≤ coordinateLast) × (getD (b .points .keys) j 0 < keyEnd) × (getD (b .points .infos) j 0 < infoEnd)
   unfolding pointOf
   point-small j l =
       let r = u .points j l in
@@ -104,7 +104,7 @@ module _ (b : Board) (u : Unbroken b) where
 
   -- an info that is found is below 2^24
   pub info-small : (k : ℕ) → (infoAt k (keysOf (b .points)) (infosOf (b .points)) ≡ 0 → ⊥) →
-      infoAt k (keysOf (b .points)) (infosOf (b .points)) < 16777216
+      infoAt k (keysOf (b .points)) (infosOf (b .points)) < infoEnd
   info-small k n =
       let e = info-entry k (keysOf (b .points)) (infosOf (b .points)) n in
       let lk = length-take-le (b .points .count) (b .points .keys) (omega (arith, u .count, u .shape .keys)) in
@@ -166,7 +166,7 @@ counted b u i from to {x} {y} {z} ex ey ez en =
 
 -- ---- the ways out of the queries and of `add_track`
 
-pub found-small : {r d : ℕ} → r ≡ d → (r ≡ 0 → ⊥) → ((d ≡ 0 → ⊥) → d < 16777216) → r < 16777216
+pub found-small : {r d : ℕ} → r ≡ d → (r ≡ 0 → ⊥) → ((d ≡ 0 → ⊥) → d < infoEnd) → r < infoEnd
 found-small e n f = let h = f (λ z. n (e ∙ z)) in omega arith
 
 pub point-absent : (k : ℕ) {r d : ℕ} → r ≡ d → r ≡ 0 → point.Refused 4 ≡ pointRead k d

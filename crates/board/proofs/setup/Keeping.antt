@@ -20,8 +20,8 @@ use Rattle.board.specs.declared.Board.{Board}
 use Rattle.board.specs.declared.points.Point.{Point}
 use Rattle.board.specs.declared.points.Points.{Points}
 use Rattle.board.specs.declared.setup.Outcome.{Outcome}
-use Rattle.board.specs.Points.{ascendingFrom, noPoints, pointOf, keyOf, infoOf, storedIn, droppedFrom}
-use Rattle.board.specs.Board.{trackCount, trackAt, noTrack, isPresent, PointRule, Unbroken, unbrokenTest, freshBoard}
+use Rattle.board.specs.Points.{ascendingFrom, noPoints, pointOf, keyOf, infoOf, storedIn, droppedFrom, trackCount}
+use Rattle.board.specs.Board.{trackAt, noTrack, isPresent, PointRule, Unbroken, unbrokenTest, freshBoard}
 use Rattle.board.specs.Setup.{boardWith, setUp, addTrack, setPoint, dropPoint, clearBoard}
 use Rattle.board.proofs.rules.Broken.{present-small, present-set, present-bit, half-bit}
 use Rattle.board.proofs.rules.Present.{with-track-fits}

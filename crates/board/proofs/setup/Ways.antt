@@ -29,8 +29,8 @@ use Rattle.board.specs.declared.points.Stored.{Stored}
 use Rattle.board.specs.declared.setup.Outcome.{Outcome}
 use Rattle.board.specs.declared.setup.Drawn.{Drawn}
 use Rattle.board.specs.declared.setup.Drawn.the-variants as drawn
-use Rattle.board.specs.Points.{key, keyOf, infoOf, storedIn, droppedFrom}
-use Rattle.board.specs.Board.{trackCount, trackAt, isPresent, PointRule, unbrokenTest, foundIn}
+use Rattle.board.specs.Points.{key, keyOf, infoOf, storedIn, droppedFrom, trackCount}
+use Rattle.board.specs.Board.{trackAt, isPresent, PointRule, unbrokenTest, foundIn}
 use Rattle.board.specs.Setup.{accepted, refused, boardWith, whole, onTrack, putTrack, putPoints, onDrawn, drawnFrom, setUp, addTrack, setPoint, dropPoint, clearBoard}
 use Rattle.board.proofs.rules.Present.{found-in}
 use Rattle.board.proofs.setup.Guards.{drawn-rule}

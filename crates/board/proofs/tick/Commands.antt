@@ -18,10 +18,10 @@ use Rattle.track.proofs.Tests.{cond-cases}
 use Rattle.track.proofs.Arrivals.{entered-valid}
 use Rattle.board.specs.declared.log.Record.{Record}
 use Rattle.board.specs.declared.tick.Staged.{Staged}
-use Rattle.board.specs.Log.{writeAt, logBytes}
-use Rattle.board.specs.Board.{trackCount, noTrack, trackAt, isPresent}
+use Rattle.board.specs.Log.{writeAt, logBytes, recordWidth}
+use Rattle.board.specs.Board.{noTrack, trackAt, isPresent}
 use Rattle.board.specs.Tick.{Stage, staged, commandRecords, commanded, obeyed, obeyedRecords, runCommand, runAll, InfoRule, TracksRule}
-use Rattle.board.specs.Points.{commandOf, targetOf}
+use Rattle.board.specs.Points.{commandOf, targetOf, trackCount}
 use Rattle.board.proofs.tick.Staging.{Obeyed, obeyed-most, write-none, written-more, written-long}
 
 -- ---- one command
@@ -182,21 +182,21 @@ rule-kept present ts ds j r l =
 pub record Turns (present clock : ℕ) (ds : List ℕ) (ts₀ : List Track) (xs₀ : List ℕ) (n : ℕ) (ts : List Track) (xs : List ℕ) (k j : ℕ) : Type 0 where
   pub rule : TracksRule present ts ds
   pub long : length ts ≡ trackCount
-  pub room : (k + (length ds - j)) * 16 ≤ length xs
+  pub room : (k + (length ds - j)) * recordWidth ≤ length xs
   pub stage : length xs ≡ length xs₀
   pub tracks : tracksRun clock (drop j ds) ts ≡ tracksRun clock ds ts₀
   pub count : k + length (recordsRun clock (drop j ds) ts) ≡ n + length (recordsRun clock ds ts₀)
-  pub bytes : writeAt xs (k * 16) (logBytes (recordsRun clock (drop j ds) ts)) ≡ writeAt xs₀ (n * 16) (logBytes (recordsRun clock ds ts₀))
+  pub bytes : writeAt xs (k * recordWidth) (logBytes (recordsRun clock (drop j ds) ts)) ≡ writeAt xs₀ (n * recordWidth) (logBytes (recordsRun clock ds ts₀))
 
 module _ (present clock : ℕ) (ds : List ℕ) (ts₀ : List Track) (xs₀ : List ℕ) (n : ℕ) where
   -- at first
-  pub turns-start : TracksRule present ts₀ ds → length ts₀ ≡ trackCount → (n + length ds) * 16 ≤ length xs₀ → Turns present clock ds ts₀ xs₀ n ts₀ xs₀ n 0
+  pub turns-start : TracksRule present ts₀ ds → length ts₀ ≡ trackCount → (n + length ds) * recordWidth ≤ length xs₀ → Turns present clock ds ts₀ xs₀ n ts₀ xs₀ n 0
   turns-start r l h = record { rule = r; long = l; room = omega arith; stage = refl; tracks = refl; count = refl; bytes = refl }
 
   module _ (ts : List Track) (xs : List ℕ) (k j : ℕ) (t : Turns present clock ds ts₀ xs₀ n ts xs k j) where
     -- at the end
     pub turns-end : length ds ≤ j →
-        (ts ≡ tracksRun clock ds ts₀) × ((k ≡ n + length (recordsRun clock ds ts₀)) × (xs ≡ writeAt xs₀ (n * 16) (logBytes (recordsRun clock ds ts₀))))
+        (ts ≡ tracksRun clock ds ts₀) × ((k ≡ n + length (recordsRun clock ds ts₀)) × (xs ≡ writeAt xs₀ (n * recordWidth) (logBytes (recordsRun clock ds ts₀))))
     unfolding runAll logBytes
     turns-end h =
         let e = drop-of-length-le ds {i = j} h in
@@ -205,7 +205,7 @@ module _ (present clock : ℕ) (ds : List ℕ) (ts₀ : List Track) (xs₀ : Lis
           sym a ∙ t .tracks,
           (
             sym (add-zero k) ∙ ap (λ (l : List Record). k + length l) (sym b) ∙ t .count,
-            sym (write-none xs (k * 16)) ∙ ap (λ (l : List Record). writeAt xs (k * 16) (logBytes l)) (sym b) ∙ t .bytes,
+            sym (write-none xs (k * recordWidth)) ∙ ap (λ (l : List Record). writeAt xs (k * recordWidth) (logBytes l)) (sym b) ∙ t .bytes,
           ),
         )
 
@@ -246,6 +246,6 @@ module _ (present clock : ℕ) (ds : List ℕ) (ts₀ : List Track) (xs₀ : Lis
             stage = ly ∙ t .stage;
             tracks = ap (tracksRun clock (drop (j + 1) ds)) et ∙ sym eu ∙ t .tracks;
             count = ap (λ (us : List Track). s .count + length (recordsRun clock (drop (j + 1) ds) us)) et ∙ omega (arith, t .count);
-            bytes = ap (λ (us : List Track). writeAt ys (s .count * 16) (logBytes (recordsRun clock (drop (j + 1) ds) us))) et
-                ∙ w .1 ∙ ap (λ (rs : List Record). writeAt xs (k * 16) (logBytes rs)) (sym er) ∙ t .bytes;
+            bytes = ap (λ (us : List Track). writeAt ys (s .count * recordWidth) (logBytes (recordsRun clock (drop (j + 1) ds) us))) et
+                ∙ w .1 ∙ ap (λ (rs : List Record). writeAt xs (k * recordWidth) (logBytes rs)) (sym er) ∙ t .bytes;
           }

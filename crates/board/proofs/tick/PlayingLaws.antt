@@ -14,6 +14,7 @@ use Rattle.track.specs.Rule.{PLAYING}
 use Rattle.track.proofs.Tests.{cond-cases}
 use Rattle.board.specs.Board.{noTrack, trackAt}
 use Rattle.board.specs.Tick.{playBit, playingWord}
+use Rattle.board.specs.Points.{trackCount}
 
 -- a track's bit
 pub bit-yes : (bit : ℕ) (t : Track) → t .mode ≡ PLAYING → bit ≡ playBit bit t
@@ -43,11 +44,11 @@ playing-below n w (t ∷ ts) h =
 
 -- ---- a turn of the loop from the last track down
 
-module _ (ts : List Track) (l : length ts ≡ 16) (w : ℕ) where
+module _ (ts : List Track) (l : length ts ≡ trackCount) (w : ℕ) where
   -- above the last track
-  pub playing-none : 0 ≡ playingWord (w / 2 ^ 16) (drop 16 ts)
+  pub playing-none : 0 ≡ playingWord (w / 2 ^ trackCount) (drop trackCount ts)
   unfolding playingWord
-  playing-none = ap (playingWord (w / 2 ^ 16)) (sym (drop-of-length-le ts {i = 16} (omega arith)))
+  playing-none = ap (playingWord (w / 2 ^ trackCount)) (sym (drop-of-length-le ts {i = trackCount} (omega arith)))
 
   -- at the first track
   pub playing-all : {i : ℕ} → i ≡ 0 → playingWord (w / 2 ^ i) (drop i ts) ≡ playingWord w ts
@@ -59,7 +60,7 @@ module _ (ts : List Track) (l : length ts ≡ 16) (w : ℕ) where
     playing-small = playing-below 15 (w / 2 ^ i) (drop i ts) (simp length-drop (omega arith))
 
     -- one track more
-    pub playing-next : i ≤ 16 → playingWord (w / 2 ^ i) (drop i ts) * 2 + playBit (w / 2 ^ (i - 1) % 2) (trackAt ts (i - 1))
+    pub playing-next : i ≤ trackCount → playingWord (w / 2 ^ i) (drop i ts) * 2 + playBit (w / 2 ^ (i - 1) % 2) (trackAt ts (i - 1))
         ≡ playingWord (w / 2 ^ (i - 1)) (drop (i - 1) ts)
     unfolding playingWord
     playing-next q =

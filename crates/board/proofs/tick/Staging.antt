@@ -18,7 +18,7 @@ use Rattle.track.specs.Walk.{arrival, passesAt, step}
 use Rattle.track.proofs.Tests.{cond-cases}
 use Rattle.board.specs.declared.log.Record.{Record}
 use Rattle.board.specs.declared.tick.Staged.{Staged}
-use Rattle.board.specs.Log.{writeAt, recordBytes, logBytes}
+use Rattle.board.specs.Log.{writeAt, recordBytes, logBytes, recordWidth}
 use Rattle.board.specs.Tick.{recordOf, pointRecords, changeRecords, refusalRecord, stepRecords, commandRecords, commanded, obeyed, obeyedRecords, reachedBy}
 use Rattle.board.specs.Points.{waits, commandOf, targetOf, eventOf}
 use Rattle.board.proofs.log.Words.{write-write, length-write}
@@ -28,7 +28,7 @@ use Rattle.board.proofs.rules.Passing.{row-next, row-end}
 -- ---- bytes
 
 -- every record has 16 bytes
-pub length-log : (rs : List Record) → length (logBytes rs) ≡ length rs * 16
+pub length-log : (rs : List Record) → length (logBytes rs) ≡ length rs * recordWidth
 unfolding logBytes
 length-log [] = refl
 length-log (r ∷ rs) = simp (length-append, length-record, length-log rs) (omega arith)
@@ -73,37 +73,37 @@ module _ (xs : List ℕ) (at n j : ℕ) (ys : List ℕ) (l : n ≤ length ys) wh
 
 -- what records staged from place n on have done: the stage as it was and is, the place behind them
 abbrev pub Written : List ℕ → List ℕ → ℕ → ℕ → List Record → Type 0
-Written xs ys n m rs = (m ≡ n + length rs) × (ys ≡ writeAt xs (n * 16) (logBytes rs))
+Written xs ys n m rs = (m ≡ n + length rs) × (ys ≡ writeAt xs (n * recordWidth) (logBytes rs))
 
 module _ (xs : List ℕ) (n : ℕ) where
   -- none staged
   pub written-none : {rs : List Record} → rs ≡ [] → Written xs xs n n rs
   unfolding logBytes
   written-none e =
-      (sym (add-zero n) ∙ ap (λ (l : List Record). n + length l) (sym e), sym (write-none xs (n * 16)) ∙ ap (λ (l : List Record). writeAt xs (n * 16) (logBytes l)) (sym e))
+      (sym (add-zero n) ∙ ap (λ (l : List Record). n + length l) (sym e), sym (write-none xs (n * recordWidth)) ∙ ap (λ (l : List Record). writeAt xs (n * recordWidth) (logBytes l)) (sym e))
 
   -- one staged
-  pub written-one : {ys : List ℕ} {rs : List Record} (r : Record) → rs ≡ r ∷ [] → ys ≡ writeAt xs (n * 16) (recordBytes r) → Written xs ys n (n + 1) rs
+  pub written-one : {ys : List ℕ} {rs : List Record} (r : Record) → rs ≡ r ∷ [] → ys ≡ writeAt xs (n * recordWidth) (recordBytes r) → Written xs ys n (n + 1) rs
   unfolding logBytes
   written-one r e q =
-      (ap (λ (l : List Record). n + length l) (sym e), q ∙ ap (writeAt xs (n * 16)) (sym (append-nil (recordBytes r))) ∙ ap (λ (l : List Record). writeAt xs (n * 16) (logBytes l)) (sym e))
+      (ap (λ (l : List Record). n + length l) (sym e), q ∙ ap (writeAt xs (n * recordWidth)) (sym (append-nil (recordBytes r))) ∙ ap (λ (l : List Record). writeAt xs (n * recordWidth) (logBytes l)) (sym e))
 
   -- some staged behind others
   pub written-more : {ys zs : List ℕ} {m k : ℕ} (rs qs : List Record) → Written xs ys n m rs → Written ys zs m k qs →
-      (n + (length rs + length qs)) * 16 ≤ length xs → Written xs zs n k (rs ++ qs)
+      (n + (length rs + length qs)) * recordWidth ≤ length xs → Written xs zs n k (rs ++ qs)
   written-more {ys} {zs} {m} {k} rs qs a b h =
       let lr = length-log rs in
       let lq = length-log qs in
       let la = length-append rs qs in
-      let e : m * 16 ≡ n * 16 + length (logBytes rs) = omega (arith, a .0) in (
+      let e : m * recordWidth ≡ n * recordWidth + length (logBytes rs) = omega (arith, a .0) in (
         omega (arith, a .0, b .0),
-        b .1 ∙ ap (λ (l : List ℕ). writeAt l (m * 16) (logBytes qs)) (a .1) ∙ write-write xs (logBytes rs) (logBytes qs) (n * 16) (m * 16) e (omega (arith, a .0))
-            ∙ ap (writeAt xs (n * 16)) (sym (log-append rs qs)),
+        b .1 ∙ ap (λ (l : List ℕ). writeAt l (m * recordWidth) (logBytes qs)) (a .1) ∙ write-write xs (logBytes rs) (logBytes qs) (n * recordWidth) (m * recordWidth) e (omega (arith, a .0))
+            ∙ ap (writeAt xs (n * recordWidth)) (sym (log-append rs qs)),
       )
 
   -- the stage is as long as it was
-  pub written-long : {ys : List ℕ} {m : ℕ} (rs : List Record) → Written xs ys n m rs → (n + length rs) * 16 ≤ length xs → length ys ≡ length xs
-  written-long rs a h = let l = length-log rs in ap length (a .1) ∙ length-write xs (logBytes rs) (n * 16) (omega arith)
+  pub written-long : {ys : List ℕ} {m : ℕ} (rs : List Record) → Written xs ys n m rs → (n + length rs) * recordWidth ≤ length xs → length ys ≡ length xs
+  written-long rs a h = let l = length-log rs in ap length (a .1) ∙ length-write xs (logBytes rs) (n * recordWidth) (omega arith)
 
 -- ---- the record of a point reached
 
@@ -113,7 +113,7 @@ module _ (clock track l passes d : ℕ) where
   unfolding pointRecords
   point-none e = simp (eq-eqb d 0 e)
 
-  pub point-one : (d ≡ 0 → ⊥) → pointRecords clock track l passes d ≡ recordOf clock track 1 (eventOf d) (commandOf d * 16 + targetOf d) l passes ∷ []
+  pub point-one : (d ≡ 0 → ⊥) → pointRecords clock track l passes d ≡ recordOf clock track 1 (eventOf d) (commandOf d * recordWidth + targetOf d) l passes ∷ []
   unfolding pointRecords
   point-one n = simp (ne-eqb d 0 n)
 
@@ -130,9 +130,9 @@ module _ (clock track : ℕ) (t : Track) (new l passes : ℕ) {event : ℕ} (e :
   unfolding changeRecords
   change-none z = simp (eq-eqb _ 0 (sym e ∙ z))
 
-  pub change-one : (event ≡ 0 → ⊥) → changeRecords clock track t new l passes ≡ recordOf clock track 2 event (t .mode * 16 + new) l passes ∷ []
+  pub change-one : (event ≡ 0 → ⊥) → changeRecords clock track t new l passes ≡ recordOf clock track 2 event (t .mode * recordWidth + new) l passes ∷ []
   unfolding changeRecords
-  change-one n = simp (ne-eqb _ 0 (λ z. n (e ∙ z))) (ap (λ (v : ℕ). recordOf clock track 2 v (t .mode * 16 + new) l passes ∷ []) (sym e))
+  change-one n = simp (ne-eqb _ 0 (λ z. n (e ∙ z))) (ap (λ (v : ℕ). recordOf clock track 2 v (t .mode * recordWidth + new) l passes ∷ []) (sym e))
 
 -- at most one
 pub change-most : (clock track : ℕ) (t : Track) (new l passes : ℕ) → length (changeRecords clock track t new l passes) ≤ 1
@@ -180,31 +180,31 @@ module _ (xs : List ℕ) (m d : ℕ) where
 
 -- a step writes its point's record, then that of its change of mode
 pub step-out : (clock track : ℕ) (t : Track) (d : ℕ) (xs : List ℕ) (n : ℕ) {ys zs : List ℕ} {l p m k : ℕ} {u : Track} →
-    (n + 2) * 16 ≤ length xs → l ≡ arrival t → p ≡ passesAt t l → u ≡ step t (waits d) → Written xs ys n m (pointRecords clock track l (t .passes .0) d) →
+    (n + 2) * recordWidth ≤ length xs → l ≡ arrival t → p ≡ passesAt t l → u ≡ step t (waits d) → Written xs ys n m (pointRecords clock track l (t .passes .0) d) →
     Written ys zs m k (changeRecords clock track t (u .mode) l p) →
     (_≡_ {A = Staged} (record { track = u; count = k }) (record { track = step t (waits d); count = n + length (stepRecords clock track t d) }))
-    × (zs ≡ writeAt xs (n * 16) (logBytes (stepRecords clock track t d)))
+    × (zs ≡ writeAt xs (n * recordWidth) (logBytes (stepRecords clock track t d)))
 unfolding stepRecords
 step-out clock track t d xs n {l = l} {p} {m} {k} {u} h el ep eu a b =
     let e : pointRecords clock track l (t .passes .0) d ++ changeRecords clock track t (u .mode) l p ≡ stepRecords clock track t d =
     λ i. pointRecords clock track (el i) (t .passes .0) d ++ changeRecords clock track t (eu i .mode) (el i) ((ep ∙ ap (passesAt t) el) i) in
     let w = written-more xs n (pointRecords clock track l (t .passes .0) d) (changeRecords clock track t (u .mode) l p) a b
     (omega (arith, point-most clock track l (t .passes .0) d, change-most clock track t (u .mode) l p)) in
-    (λ i. record { track = eu i; count = (w .0 ∙ ap (λ (rs : List Record). n + length rs) e) i }, w .1 ∙ ap (λ (rs : List Record). writeAt xs (n * 16) (logBytes rs)) e)
+    (λ i. record { track = eu i; count = (w .0 ∙ ap (λ (rs : List Record). n + length rs) e) i }, w .1 ∙ ap (λ (rs : List Record). writeAt xs (n * recordWidth) (logBytes rs)) e)
 
 module _ (clock d : ℕ) (t : Track) (xs : List ℕ) (n : ℕ) where
   -- a track after its command, and what was written
   abbrev pub Done : List ℕ → Track → ℕ → Decision → Type 0
   Done ys u k r =
       (_≡_ {A = Staged} (record { track = u; count = k }) (record { track = commanded t r; count = n + length (commandRecords clock d t r) }))
-      × (ys ≡ writeAt xs (n * 16) (logBytes (commandRecords clock d t r)))
+      × (ys ≡ writeAt xs (n * recordWidth) (logBytes (commandRecords clock d t r)))
 
   pub goes-out : {ys : List ℕ} {u : Track} {k m : ℕ} {r : Decision} → r ≡ decision.Goes m → u ≡ entered t m →
       Written xs ys n k (changeRecords clock (targetOf d) t m (t .position .0) (t .passes .0)) → Done ys u k r
   unfolding commanded commandRecords
   goes-out {ys} {u} {k} e eu w = subst (Done ys u k) (sym e) ((λ i. record { track = eu i; count = w .0 i }), w .1)
 
-  pub refused-out : {ys : List ℕ} {r : Decision} → r ≡ decision.Refused → ys ≡ writeAt xs (n * 16) (recordBytes (refusalRecord clock d t)) →
+  pub refused-out : {ys : List ℕ} {r : Decision} → r ≡ decision.Refused → ys ≡ writeAt xs (n * recordWidth) (recordBytes (refusalRecord clock d t)) →
       Done ys t (n + 1) r
   unfolding commanded commandRecords
   refused-out {ys} e q =
@@ -214,7 +214,7 @@ module _ (clock d : ℕ) (t : Track) (xs : List ℕ) (n : ℕ) where
   -- the same of a point that may have no command
   abbrev pub Obeyed : List ℕ → Staged → Type 0
   Obeyed ys s =
-      (s ≡ record { track = obeyed d t; count = n + length (obeyedRecords clock d t) }) × (ys ≡ writeAt xs (n * 16) (logBytes (obeyedRecords clock d t)))
+      (s ≡ record { track = obeyed d t; count = n + length (obeyedRecords clock d t) }) × (ys ≡ writeAt xs (n * recordWidth) (logBytes (obeyedRecords clock d t)))
 
   pub obeyed-none : commandOf d ≡ 0 → Obeyed xs (record { track = t; count = n })
   obeyed-none e =
@@ -222,5 +222,5 @@ module _ (clock d : ℕ) (t : Track) (xs : List ℕ) (n : ℕ) where
 
   pub obeyed-some : {ys : List ℕ} {s : Staged} → (commandOf d ≡ 0 → ⊥) →
       (s ≡ record { track = commanded t (gridOf (t .mode) (commandOf d)); count = n + length (commandRecords clock d t (gridOf (t .mode) (commandOf d))) })
-      × (ys ≡ writeAt xs (n * 16) (logBytes (commandRecords clock d t (gridOf (t .mode) (commandOf d))))) → Obeyed ys s
+      × (ys ≡ writeAt xs (n * recordWidth) (logBytes (commandRecords clock d t (gridOf (t .mode) (commandOf d))))) → Obeyed ys s
   obeyed-some z e = simp (ne-eqb (commandOf d) 0 z) e

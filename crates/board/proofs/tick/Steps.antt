@@ -16,9 +16,9 @@ use Rattle.track.proofs.Tests.{cond-cases, both, both-is}
 use Rattle.track.proofs.Arrivals.{step-valid, step-passes, entered-valid, entered-passes}
 use Rattle.board.specs.declared.Board.{Board}
 use Rattle.board.specs.declared.log.Record.{Record}
-use Rattle.board.specs.Points.{pointMost, ascendingFrom, keysOf, infosOf, infoAt, pointOf, waits, eventOf, waitOf, commandOf, targetOf}
+use Rattle.board.specs.Points.{pointMost, ascendingFrom, keysOf, infosOf, infoAt, pointOf, waits, eventOf, waitOf, commandOf, targetOf, trackCount}
 use Rattle.board.specs.Board.{eventMost, trackAt, isPresent, placeTest, deedTest, tracksTest, pointsTest, shapeTest, unbrokenParts, unbrokenTest}
-use Rattle.board.specs.Tick.{keep, membersFrom, members}
+use Rattle.board.specs.Tick.{keep, membersFrom, members, tickMost}
 use Rattle.board.specs.Tick.{Stage, staged, foundBy, stepRecords, reachedBy, stepMember, stepAll, playingWord, tickFrom, tickOf, InfoRule, TracksRule}
 use Rattle.board.proofs.rules.Broken.{tracks-at, tracks-are, shape-same}
 use Rattle.board.proofs.points.Keys.{ascending-head, ascending-rest, ascending-cons}
@@ -111,10 +111,10 @@ module _ (keys infos : List ℕ) (clock : ℕ) where
       let m = reached-most (foundAt i (s .tracks)) in
       omega (arith, steps-reach is (stepMember keys infos clock i s))
 
-  -- the members of a word write at most 32 records, and reach at most 16 points
-  pub steps-few : (word : ℕ) (ts : List Track) → (length (stepsFrom (members word) ts .records) ≤ 32) × (length (stepsFrom (members word) ts .reached) ≤ 16)
+  -- the members of a word write at most two records for each track, and reach at most one point
+  pub steps-few : (word : ℕ) (ts : List Track) → (length (stepsFrom (members word) ts .records) ≤ 2 * trackCount) × (length (stepsFrom (members word) ts .reached) ≤ trackCount)
   steps-few word ts =
-      let m = members-most 16 0 word in
+      let m = members-most trackCount 0 word in
       (omega (arith, steps-most (members word) (staged ts [] [])), omega (arith, steps-reach (members word) (staged ts [] [])))
 
   -- steps leave as many tracks
@@ -181,8 +181,8 @@ module _ (keys infos : List ℕ) (clock present : ℕ) (ts : List Track) where
   abbrev stepped : Stage
   stepped = stepAll keys infos clock playing (staged ts [] [])
 
-  -- a tick writes at most 48 records
-  pub tick-few : length (tickFrom keys infos clock present ts .records) ≤ 48
+  -- a tick writes at most so many records
+  pub tick-few : length (tickFrom keys infos clock present ts .records) ≤ tickMost
   unfolding tickFrom
   tick-few =
       omega (arith, steps-few keys infos clock (playingWord present ts) ts, run-adds clock (stepped .reached) stepped)
@@ -198,7 +198,7 @@ module _ (keys infos : List ℕ) (clock present : ℕ) (ts : List Track) where
   unfolding tickFrom
   tick-at P Q f g h i p =
       run-at clock Q h i (stepped .reached) stepped
-      (steps-at keys infos clock P Q f g i 0 playing (staged ts [] []) (members-ascend 16 0 (playingWord present ts)) p)
+      (steps-at keys infos clock P Q f g i 0 playing (staged ts [] []) (members-ascend trackCount 0 (playingWord present ts)) p)
 
   -- a track that was sound is sound one tick later
   pub tick-sound : (before : Ticks) (i : ℕ) → Sound (trackAt ts i) before → Sound (trackAt (tickFrom keys infos clock present ts .tracks) i) (record { 0 = before .0 + 1 })

@@ -16,6 +16,7 @@ use lib.IntN.{ℤ}
 use mathlib.Core.Bool.{true}
 use mathlib.Core.Path.{_≡_, _∙_, sym}
 use native.Mathlib.Omega.{arith}
+use Rattle.board.specs.Points.{trackCount}
 
 abbrev start : tie.Else1 → tie.Start
 start c = c .before .before .before .before .before .before .before .before .before
@@ -33,7 +34,7 @@ at z = naturalOf z 0 15
 number : (c : tie.After-i) → at (start (c .before .before .before) .args .number) ≡ In (c .i .given .0 .0)
 number c = let s = start (c .before .before .before) in told at (s .fits .number) (c .before .before .in-range .ensures) (c .i .given .1)
 
-small : (c : tie.After-i) → c .i .given .0 .0 < 16
+small : (c : tie.After-i) → c .i .given .0 .0 < trackCount
 small c = let l = natural-in _ 0 15 (number c) .2 in omega arith
 
 unbroken-requires : tie.Need-unbroken-requires

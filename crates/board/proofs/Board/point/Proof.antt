@@ -16,6 +16,7 @@ use borrow.Author.Tests.{not-true, not-false}
 use mathlib.Core.Bool.{true}
 use mathlib.Core.Path.{_≡_, _∙_, sym, refl}
 use native.Mathlib.Omega.{arith}
+use Rattle.board.specs.Points.{trackCount}
 
 abbrev start : tie.Else1 → tie.Start
 start c = c .before .before .before .before .before .before .before .before .before
@@ -33,7 +34,7 @@ number c =
     let s = start (c .before .before .before) in
     told (foundIn (s .args .t1 .present)) (s .fits .track) (c .before .before .found .ensures) (c .i .given .1)
 
-small : (c : tie.After-i) → c .i .given .0 .0 < 16
+small : (c : tie.After-i) → c .i .given .0 .0 < trackCount
 small c = present-small _ _ (found-in _ _ (number c))
 
 -- the coordinate of the position

@@ -6,7 +6,7 @@ use Rattle.board.proofs.rules.Present.{found-in, target-below}
 use Rattle.board.proofs.setup.Guards.{drawn-rule, points-refused, points-put, drawn-bad, drawn-good, drawn-told}
 use Rattle.board.specs.Board.{foundIn, unbrokenTest, Unbroken, PointRule, trackAt}
 use Rattle.board.specs.Setup.{drawnFrom, setPoint}
-use Rattle.board.specs.Points.{storedIn}
+use Rattle.board.specs.Points.{storedIn, trackCount}
 use Rattle.board.specs.declared.setup.Drawn.the-variants.{Good}
 use Rattle.track.proofs.Numbers.{told, natural-out, natural-take}
 use Rattle.track.proofs.Tests.{cond-yes, cond-no}
@@ -33,7 +33,7 @@ number c =
     let s = start (c .before .before .before) in
     told (foundIn (s .args .t1 .present)) (s .fits .track) (c .before .before .found .ensures) (c .i .given .1)
 
-small : (c : tie.After-i) → c .i .given .0 .0 < 16
+small : (c : tie.After-i) → c .i .given .0 .0 < trackCount
 small c = present-small _ _ (found-in _ _ (number c))
 
 abbrev entry : tie.After-p → tie.After-i

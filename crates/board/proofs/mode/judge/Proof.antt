@@ -21,6 +21,7 @@ use lib.ListN.{length}
 use mathlib.Core.Bool.{true}
 use mathlib.Core.Path.{_≡_, _∙_, sym, ap, refl, subst}
 use native.Mathlib.Omega.{arith}
+use Rattle.board.specs.Points.{trackCount}
 
 -- the board of the parts
 abbrev board : tie.Start → Board
@@ -44,7 +45,7 @@ number : (c : tie.After-i) → foundIn (start (fitting c) .args .present) (start
 number c =
     let s = start (fitting c) in told (foundIn (s .args .present)) (s .fits .track) (c .before .before .found .ensures) (c .i .given .1)
 
-small : (c : tie.After-i) → c .i .given .0 .0 < 16
+small : (c : tie.After-i) → c .i .given .0 .0 < trackCount
 small c = present-small _ _ (found-in _ _ (number c))
 
 abbrev entry : tie.After-new → tie.After-i
@@ -72,7 +73,7 @@ ruling c =
     (natural-take _ _ _ (number (entry c)) (ap (decided _ _ _) (sym (goes c)))))
 
 array-copy-out-first : tie.Need-array-copy-out-first
-array-copy-out-first c = let l : length (c .before .before .before .args .t1) ≡ 16 = search (length-mapped, needs) in omega arith
+array-copy-out-first c = let l : length (c .before .before .before .args .t1) ≡ trackCount = search (length-mapped, needs) in omega arith
 
 unbroken-requires : tie.Need-unbroken-requires
 unbroken-requires c κs = let s = c .before .before .before .before .pre in (omega (arith, s .0), omega (arith, s .1))

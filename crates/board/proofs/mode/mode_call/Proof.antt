@@ -7,12 +7,13 @@ use lib.ListN.{length}
 use mathlib.Core.Path.{_≡_}
 use mir.Facts.{toZ-ofZ}
 use native.Mathlib.Omega.{arith}
+use Rattle.board.specs.Points.{trackCount}
 
 judge-requires : tie.Need-judge-requires
 judge-requires c κs = (search needs, search needs)
 
 -- there are sixteen tracks
-long : (s : tie.Start) → length (s .args .t1 .tracks) ≡ 16
+long : (s : tie.Start) → length (s .args .t1 .tracks) ≡ trackCount
 long s = search (length-mapped, needs)
 
 mul-after : tie.Need-mul-after

@@ -10,12 +10,13 @@ use lib.Count.{ones}
 use lib.ListN.{length, length-set}
 use mathlib.Core.Path.{_≡_, refl, _∙_}
 use native.Mathlib.Omega.{arith}
+use Rattle.board.specs.Points.{trackCount}
 
 abbrev Inv-loop : tie.InvT-loop
 Inv-loop word k tracks next₀ left₀ next left = (left < 65536)
     × Leapable tracks (members left)
     × (leapInto (k .0) tracks (members left) next ≡ leapInto (k .0) tracks (members word) tracks)
-    × (length next ≡ 16)
+    × (length next ≡ trackCount)
 
 abbrev μ-loop : tie.MeasureT-loop
 μ-loop word k tracks next₀ left₀ next left = ones left

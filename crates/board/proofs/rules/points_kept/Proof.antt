@@ -55,9 +55,6 @@ shared-slice-read-d c = search needs
 returns : tie.Need-returns Inv-loop μ-loop
 returns c = points-low _ _ _ _ _ _ _ (c .if1 .taken) ∙ rows (c .before .before .before)
 
-mul-if2 : tie.Need-mul-if2 Inv-loop μ-loop
-mul-if2 c = search needs
-
 returns-2 : tie.Need-returns-2 Inv-loop μ-loop
 returns-2 c = points-track _ _ _ _ _ _ _ (c .if2 .taken) ∙ rows (c .before .before .before .before)
 
@@ -121,7 +118,6 @@ points-kept-spec =
     mul-d
     shared-slice-read-d
     returns
-    mul-if2
     returns-2
     returns-3
     of-requires

@@ -13,11 +13,11 @@ use Rattle.board.proofs.tick.Staging.{length-log}
 use Rattle.board.proofs.log.Words.{length-write}
 use Rattle.board.specs.Log.{writeAt, recordWidth, logBytes, capacity}
 use Rattle.board.proofs.advance.run.Tie as tie
-use Rattle.board.specs.Points.{keysOf, infosOf}
+use Rattle.board.specs.Points.{keysOf, infosOf, trackCount}
 use Rattle.board.specs.Quiet.{Each, Calm, Fewest, Able, Leapable, leapTracks, leapInto}
 use Rattle.board.specs.declared.Board.{Board}
 use Rattle.board.specs.Board.{Unbroken, trackAt, boardOf, Shaped}
-use Rattle.board.specs.Tick.{Stage, playingWord, members}
+use Rattle.board.specs.Tick.{Stage, playingWord, members, tickMost}
 use Rattle.track.specs.declared.Track.{Track}
 use Rattle.track.specs.Rule.{clockEnd}
 use borrow.Author.Needs.{needs}
@@ -41,7 +41,7 @@ abbrev pub μ-loop : tie.MeasureT-loop
 abbrev pub Inv-ticks : tie.InvT-ticks
 Inv-ticks present keys infos n kept log₀ slots wanted tracks₀ back₀ word₀ clock₀ held₀ taken₀ look₀ stage₀ reached₀ answer₀ log tracks back word clock held taken look stage reached answer =
     Going (boardOf tracks₀ present keys infos n clock₀ kept) wanted log₀ log tracks clock held taken answer × (word ≡ playingWord present tracks)
-    × (length stage ≡ 768) × (length reached ≡ 16)
+    × (length stage ≡ tickMost * recordWidth) × (length reached ≡ trackCount)
 
 abbrev pub μ-ticks : tie.MeasureT-ticks
 μ-ticks present keys infos n kept log₀ slots wanted tracks₀ back₀ word₀ clock₀ held₀ taken₀ look₀ stage₀ reached₀ answer₀ log tracks back word clock held taken look stage reached answer =
@@ -158,7 +158,7 @@ abbrev pub entry : tie.Joined4 Inv-loop μ-loop Inv-ticks μ-ticks → tie.Start
 entry c = start (turn (leap-at c))
 
 -- the tracks to go back to, if the records might not fit
-pub kept-back : (c : tie.Joined4 Inv-loop μ-loop Inv-ticks μ-ticks) → capacity (length (entry c .args .log .now)) - turn (leap-at c) .before .ticks .held < 48 → c .if4 .back ≡ leapt (leap-at c)
+pub kept-back : (c : tie.Joined4 Inv-loop μ-loop Inv-ticks μ-ticks) → capacity (length (entry c .args .log .now)) - turn (leap-at c) .before .ticks .held < tickMost → c .if4 .back ≡ leapt (leap-at c)
 kept-back c h =
     ⊎-elim (λ w. w .2 ∙ w .1 .ensures ∙ leapt-is (leap-at c)) (λ w. absurd (omega (arith, w .0 .left))) (c .if4 .came)
 
@@ -195,7 +195,7 @@ done c =
     (r .7 ∙ r .3 .ensures .1 .1 .1 ∙ ap (playingWord _) (sym (r .6))))
     (λ r. turning-still _ _ _ _ _ w _ _ _ _ _ _ _ _ (k .inv) l (r .0 .left) (r .1) (r .4) (r .3) (r .2)) (c .if6 .came)
 
-pub few : (c : tie.Joined6 Inv-loop μ-loop Inv-ticks μ-ticks) → c .if6 .total ≤ 48
+pub few : (c : tie.Joined6 Inv-loop μ-loop Inv-ticks μ-ticks) → c .if6 .total ≤ tickMost
 few c =
     let k = c .before .before .before .before in
     let b = board (entry k) in
@@ -227,7 +227,7 @@ walked c =
 pub full : (c : tie.Joined4 Inv-loop μ-loop Inv-ticks μ-ticks) →
     let k = turn (leap-at c) .before .ticks in
     let room = capacity (length (entry c .args .log .now)) - k .held in
-    room < 48 → room < length (tickAt c .records) →
+    room < tickMost → room < length (tickAt c .records) →
     Ended (board (entry c)) (go (entry c .args .count .0) (world (board (entry c)) (entry c .args .log .now)))
     (record { answer = LogFull (record { 0 = k .taken + leap-at c .if2 .calm }); tracks = c .if4 .back; clock = record { 0 = k .clock + leap-at c .if2 .calm }; held = k .held }) (k .log)
 full c h r =
