@@ -191,7 +191,7 @@ pub fn proceed<'a>(
     let capacity = log.len() / Record::WIDTH;
     if capacity < kept {
         return Left {
-            answer: Advanced::Refused(Board::CAPACITY),
+            answer: Advanced::Refused(Answer::CAPACITY),
             tracks,
             clock,
             held: kept,

@@ -64,10 +64,10 @@ pub fn judge<'a>(
     }
     let capacity = (log.len() / Record::WIDTH) as u64;
     if capacity < held {
-        return declined(Board::CAPACITY, first, held);
+        return declined(Answer::CAPACITY, first, held);
     }
     let Natural::In(i) = found(present, track) else {
-        return declined(Board::TRACK, first, held);
+        return declined(Answer::TRACK, first, held);
     };
     let at = i as usize;
     let t = tracks[at];
@@ -85,7 +85,7 @@ pub fn judge<'a>(
         };
     }
     if capacity <= held {
-        return declined(Board::ROOM, first, held);
+        return declined(Answer::ROOM, first, held);
     }
     let position = t.position;
     let passes = t.passes;

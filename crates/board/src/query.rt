@@ -88,7 +88,7 @@ impl Board {
         }
         let Natural::In(i) = found(self.present, track) else {
             return TrackRead {
-                answer: Answer::Refused(Board::TRACK),
+                answer: Answer::Refused(Answer::TRACK),
                 track: none,
             };
         };
@@ -116,16 +116,16 @@ impl Board {
             return PointRead::Refused(Answer::VALUE);
         }
         let Natural::In(i) = found(self.present, track) else {
-            return PointRead::Refused(Board::TRACK);
+            return PointRead::Refused(Answer::TRACK);
         };
         let Place::At(l) = Coordinate::of(position) else {
-            return PointRead::Refused(Board::POINT);
+            return PointRead::Refused(Answer::POINT);
         };
         let n = self.points.count;
         let wanted = i * Points::STRIDE + l.0;
         let info = Points::info_at(&self.points.keys, &self.points.infos, n, wanted);
         if info == 0 {
-            return PointRead::Refused(Board::POINT);
+            return PointRead::Refused(Answer::POINT);
         }
         PointRead::Found(Point::of(wanted, info))
     }
@@ -146,7 +146,7 @@ impl Board {
             return CountRead::Refused(Answer::VALUE);
         }
         let Natural::In(i) = found(self.present, track) else {
-            return CountRead::Refused(Board::TRACK);
+            return CountRead::Refused(Answer::TRACK);
         };
         let n = self.points.count;
         let base = i * Points::STRIDE;

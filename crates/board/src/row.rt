@@ -9,6 +9,7 @@ use track::Coordinate;
 use track::Track;
 use track::number::Natural;
 use track::number::in_range;
+use track::setup::Answer;
 use track::setup::Change;
 ghost use mathlib.Core.Path.{_≡_};
 ghost use Prim.Native.Nat.{_+_, _*_, _≤_};
@@ -25,11 +26,6 @@ pub const CALL_WIDTH: usize = 7;
 pub enum Coded {
     Call(Call),
     Nothing,
-}
-
-impl Coded {
-    // The refusal of a row that is no call.
-    pub const NO_CALL: u8 = 9;
 }
 
 // The call of a row: its code, and six numbers.
@@ -198,7 +194,7 @@ fn no_call(b: Board) -> Applied
     ensures { λ r. ⌜ (replyOf (r .told) (r .track) ≡ refused 9) × (r .board ≡ b) ⌝ }
 {
     Applied {
-        told: Told::Refused(Coded::NO_CALL),
+        told: Told::Refused(Answer::GRAMMAR),
         track: Track::new(Coordinate(0), Coordinate(0)),
         board: b,
     }

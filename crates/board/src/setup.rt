@@ -94,24 +94,6 @@ fn draw(
 }
 
 impl Board {
-    // Number not 0 to 15, or track absent.
-    pub const TRACK: u8 = 1;
-
-    // Drop or query of a point that isn't there.
-    pub const POINT: u8 = 4;
-
-    // A 257th point.
-    pub const FULL: u8 = 5;
-
-    // Track already present.
-    pub const TAKEN: u8 = 6;
-
-    // Capacity below held.
-    pub const CAPACITY: u8 = 7;
-
-    // The mode call's record doesn't fit.
-    pub const ROOM: u8 = 8;
-
     // A set-up change of a track: start, end, loops, repeat, direction, action or jump.
     pub fn set_up(self, track: i64, change: Change) -> Outcome
         ensures { λ r. ⌜ r ≡ setUp self track change ⌝ }
@@ -128,7 +110,7 @@ impl Board {
             return refused(Answer::VALUE, self);
         }
         let Natural::In(i) = found(self.present, track) else {
-            return refused(Board::TRACK, self);
+            return refused(Answer::TRACK, self);
         };
         let at = i as usize;
         let t = tracks[at];
@@ -156,10 +138,10 @@ impl Board {
             return refused(Answer::VALUE, self);
         }
         let Natural::In(i) = in_range(number, 0, Board::LAST) else {
-            return refused(Board::TRACK, self);
+            return refused(Answer::TRACK, self);
         };
         if is_present(self.present, i) {
-            return refused(Board::TAKEN, self);
+            return refused(Answer::PRESENT, self);
         }
         let Place::At(low) = Coordinate::of(min) else {
             return refused(Answer::VALUE, self);
@@ -202,7 +184,7 @@ impl Board {
             return refused(Answer::VALUE, self);
         }
         let Natural::In(i) = found(self.present, track) else {
-            return refused(Board::TRACK, self);
+            return refused(Answer::TRACK, self);
         };
         let owner = tracks[i as usize];
         if !settled(owner.mode) {
@@ -223,7 +205,7 @@ impl Board {
         let points = self.points;
         let stored = points.stored(p.key(), p.info());
         if !stored.done {
-            return refused(Board::FULL, self);
+            return refused(Answer::FULL, self);
         }
         let mut board = self;
         let after = stored.points;
@@ -247,7 +229,7 @@ impl Board {
             return refused(Answer::VALUE, self);
         }
         let Natural::In(i) = found(self.present, track) else {
-            return refused(Board::TRACK, self);
+            return refused(Answer::TRACK, self);
         };
         let at = i as usize;
         let owner = tracks[at];
@@ -256,12 +238,12 @@ impl Board {
             return refused(Answer::MODE, self);
         }
         let Place::At(l) = Coordinate::of(position) else {
-            return refused(Board::POINT, self);
+            return refused(Answer::POINT, self);
         };
         let points = self.points;
         let dropped = points.dropped(i * Points::STRIDE + l.0);
         if !dropped.done {
-            return refused(Board::POINT, self);
+            return refused(Answer::POINT, self);
         }
         let mut board = self;
         let after = dropped.points;

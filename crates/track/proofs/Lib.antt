@@ -8,4 +8,3 @@ pub mod Leaps
 pub mod Modes
 pub mod Setups
 mod Exits
-pub mod Cards

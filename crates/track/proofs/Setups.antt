@@ -1,13 +1,13 @@
 -- What the set-up changes keep.
-use Prim.Native.Nat.{ℕ, zero, suc, _+_, _-_, _*_, _≤_, _<_}
+use Prim.Native.Nat.{ℕ, zero, suc, _+_, _*_, _≤_, _<_}
 use mathlib.Core.Path.{_≡_, refl, _∙_}
 use mathlib.Core.List.{List, [], _∷_}
 use native.Mathlib.Omega.{arith}
 use lib.ListN.{getD, set, length-set, replicate}
 use lib.Seq.{getD-set-other}
 use lib.IntN.{ℤ}
-use lib.Dec.{eqb}
-use borrow.Author.Tests.{eqb-false}
+use lib.Dec.{eqb, ltb}
+use borrow.Author.Tests.{eqb-false, ltb-true}
 use Rattle.track.specs.declared.Track.{Track}
 use Rattle.track.specs.declared.Coordinate.{Coordinate}
 use Rattle.track.specs.declared.number.Natural.{Natural}
@@ -111,16 +111,18 @@ module _ (t : Track) (v : Valid t) where
   start-keeps : (p : ℤ) → Keeps t (startSet t p .track)
   unfolding startSet
   start-keeps p =
-      on-place (Keeps t) t (t .min .0) (t .end .0 - 1) (coordinateOf p) _ (same t v)
-      (λ c low high. spanned (setTo t c (t .end) (t .loops) (t .repeat) (t .direction))
-      (rewound-valid c (t .end) (t .direction) (v .direction) low (omega arith) (omega arith)) refl refl refl)
+      on-place (Keeps t) t (t .min .0) (t .max .0) (coordinateOf p) _ (same t v)
+      (λ c low high. cond-cases (λ (r : Changed). Keeps t (r .track)) (ltb (c .0) (t .end .0))
+      (λ e. spanned (setTo t c (t .end) (t .loops) (t .repeat) (t .direction))
+      (rewound-valid c (t .end) (t .direction) (v .direction) low (ltb-true _ _ e) (omega arith)) refl refl refl) (λ _. same t v))
 
   end-keeps : (p : ℤ) → Keeps t (endSet t p .track)
   unfolding endSet
   end-keeps p =
-      on-place (Keeps t) t (t .start .0 + 1) (t .max .0) (coordinateOf p) _ (same t v)
-      (λ c low high. spanned (setTo t (t .start) c (t .loops) (t .repeat) (t .direction))
-      (rewound-valid (t .start) c (t .direction) (v .direction) (omega arith) (omega arith) high) refl refl refl)
+      on-place (Keeps t) t (t .min .0) (t .max .0) (coordinateOf p) _ (same t v)
+      (λ c low high. cond-cases (λ (r : Changed). Keeps t (r .track)) (ltb (t .start .0) (c .0))
+      (λ e. spanned (setTo t (t .start) c (t .loops) (t .repeat) (t .direction))
+      (rewound-valid (t .start) c (t .direction) (v .direction) (omega arith) (ltb-true _ _ e) high) refl refl refl) (λ _. same t v))
 
   -- loops, repeat and direction leave the walk where it is
   set-keeps : (loops repeat direction : ℕ) → (1 ≤ loops) × (loops ≤ loopsMost) → repeat ≤ REPEATING → direction ≤ BACKWARD →

@@ -3,7 +3,7 @@ use Prim.Native.Nat.{ℕ, _+_, _-_, _*_}
 use mathlib.Core.Bool.{Bool, cond, _||_}
 use lib.ListN.{set}
 use lib.IntN.{ℤ}
-use lib.Dec.{eqb}
+use lib.Dec.{eqb, ltb}
 use Rattle.track.specs.Rule.{STOPPED, PAUSED, DUE, loopsMost, cellMost, moved, rewound}
 use Rattle.track.specs.Number.{naturalOf, coordinateOf, within, onNatural, onPlace}
 use Rattle.track.specs.declared.Track.{Track}
@@ -72,14 +72,16 @@ permits (change.Jump p) mode = settled mode
 -- start: min ≤ start < end; rewinds
 unfoldable pub startSet : Track → ℤ → Changed
 startSet t p =
-    onPlace (within (t .min .0) (t .end .0 - 1) (coordinateOf p))
-    (λ c. accepted (rewound (setTo t c (t .end) (t .loops) (t .repeat) (t .direction)))) (refused 3 t)
+    onPlace (within (t .min .0) (t .max .0) (coordinateOf p))
+    (λ c. cond (ltb (c .0) (t .end .0))
+    (accepted (rewound (setTo t c (t .end) (t .loops) (t .repeat) (t .direction)))) (refused 3 t)) (refused 3 t)
 
 -- end: start < end ≤ max; rewinds
 unfoldable pub endSet : Track → ℤ → Changed
 endSet t p =
-    onPlace (within (t .start .0 + 1) (t .max .0) (coordinateOf p))
-    (λ c. accepted (rewound (setTo t (t .start) c (t .loops) (t .repeat) (t .direction)))) (refused 3 t)
+    onPlace (within (t .min .0) (t .max .0) (coordinateOf p))
+    (λ c. cond (ltb (t .start .0) (c .0))
+    (accepted (rewound (setTo t (t .start) c (t .loops) (t .repeat) (t .direction)))) (refused 3 t)) (refused 3 t)
 
 -- a loop count 1 to 65,535
 unfoldable pub loopsSet : Track → ℤ → Changed

@@ -5,7 +5,6 @@ use crate::number::Natural;
 use crate::number::Place;
 use crate::number::in_range;
 ghost use mathlib.Core.Path.{_≡_};
-ghost use Rattle.track.specs.Rule.{Valid};
 ghost use Rattle.track.specs.Setup.{refused, accepted, settled, permits, startSet, endSet, loopsSet, repeatSet, directionSet, actionSet, jumpTo, changedBy};
 
 // A set-up change with the numbers of its call.
@@ -26,12 +25,34 @@ pub enum Answer {
     Refused(u8),
 }
 
+// The numbers of refusals (01, "Turned down").
 impl Answer {
+    // Number not 0 to 15 or, but for add track, track absent.
+    pub const TRACK: u8 = 1;
+
     // Mode does not allow the call.
     pub const MODE: u8 = 2;
 
     // A value outside its stated range or rule.
     pub const VALUE: u8 = 3;
+
+    // Drop or query of a point that isn't there.
+    pub const POINT: u8 = 4;
+
+    // A 257th point.
+    pub const FULL: u8 = 5;
+
+    // Track already present.
+    pub const PRESENT: u8 = 6;
+
+    // Capacity below held.
+    pub const CAPACITY: u8 = 7;
+
+    // The mode call's record doesn't fit.
+    pub const ROOM: u8 = 8;
+
+    // Line not in the grammar.
+    pub const GRAMMAR: u8 = 9;
 }
 
 // The answer to a change, and the track after it.
@@ -86,14 +107,18 @@ fn permits(change: Change, mode: u8) -> bool
 impl Track {
     // The start is set, and the track rewinds.
     fn set_start(self, p: i64) -> Changed
-        requires { ⌜ Valid self ⌝ }
         ensures { λ r. ⌜ r ≡ startSet self p ⌝ }
     {
         let low = self.min;
-        let high = Coordinate(self.end.0 - 1);
+        let high = self.max;
+        let end = self.end.0;
         let Place::At(c) = Coordinate::between(p, low, high) else {
             return refused(Answer::VALUE, self);
         };
+        let l = c.0;
+        if end <= l {
+            return refused(Answer::VALUE, self);
+        }
         let mut next = self;
         next.start = c;
         accepted(next.rewound())
@@ -101,14 +126,18 @@ impl Track {
 
     // The end is set, and the track rewinds.
     fn set_end(self, p: i64) -> Changed
-        requires { ⌜ Valid self ⌝ }
         ensures { λ r. ⌜ r ≡ endSet self p ⌝ }
     {
-        let low = Coordinate(self.start.0 + 1);
+        let low = self.min;
         let high = self.max;
+        let start = self.start.0;
         let Place::At(c) = Coordinate::between(p, low, high) else {
             return refused(Answer::VALUE, self);
         };
+        let l = c.0;
+        if l <= start {
+            return refused(Answer::VALUE, self);
+        }
         let mut next = self;
         next.end = c;
         accepted(next.rewound())
@@ -188,7 +217,6 @@ impl Track {
 
     // A set-up change: refused 2 where the mode does not allow it, then 3 for its value.
     pub fn changed(self, change: Change) -> Changed
-        requires { ⌜ Valid self ⌝ }
         ensures { λ r. ⌜ r ≡ changedBy self change ⌝ }
     {
         let mode = self.mode;

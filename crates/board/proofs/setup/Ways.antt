@@ -129,8 +129,12 @@ changed-refused t c {n} = cond-cases Kept (permits c (t .mode)) (λ _. by c) (λ
     Kept r = r .answer ≡ Refused n → r .track ≡ t
 
     by : (c : Change) → Kept (setBy t c)
-    by (change.Start p) = by-place Kept (within (t .min .0) (t .end .0 - 1) (coordinateOf p)) _ _ (λ _ _ e. cc) (λ e. refl)
-    by (change.End p) = by-place Kept (within (t .start .0 + 1) (t .max .0) (coordinateOf p)) _ _ (λ _ _ e. cc) (λ e. refl)
+    by (change.Start p) =
+        by-place Kept (within (t .min .0) (t .max .0) (coordinateOf p)) _ _
+        (λ c _. cond-cases Kept (ltb (c .0) (t .end .0)) (λ _ e. cc) (λ _ e. refl)) (λ e. refl)
+    by (change.End p) =
+        by-place Kept (within (t .min .0) (t .max .0) (coordinateOf p)) _ _
+        (λ c _. cond-cases Kept (ltb (t .start .0) (c .0)) (λ _ e. cc) (λ _ e. refl)) (λ e. refl)
     by (change.Loops k) = by-natural Kept (naturalOf k 1 65535) _ _ (λ _ _ e. cc) (λ e. refl)
     by (change.Repeat f) = by-natural Kept (naturalOf f 0 1) _ _ (λ _ _ e. cc) (λ e. refl)
     by (change.Direction d) = by-natural Kept (naturalOf d 0 1) _ _ (λ _ _ e. cc) (λ e. refl)

@@ -72,7 +72,7 @@ array-copy-out-t : tie.Need-array-copy-out-t
 array-copy-out-t c = let l = small (c .before) in let s = kept (c .before .before .before .before) .shape in omega arith
 
 changed-requires : tie.Need-changed-requires
-changed-requires c κs = kept (c .before .before .before .before .before) .tracks _ (found-in _ _ (number (c .before .before))) .valid
+changed-requires c κs = search needs
 
 mul-after : tie.Need-mul-after
 mul-after c = let l = small (c .before .before .before .before) in search needs
