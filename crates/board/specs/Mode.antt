@@ -74,3 +74,7 @@ pub record Follows (m : Ruling) (o : Outcome) (before after : List ℕ) : Type 0
 abbrev pub outcomeOf : Board → Ruled → Outcome
 outcomeOf b r =
     record { answer = r .answer; board = boardWith b (set (b .tracks) (r .at) (r .track)) (b .present) (b .points) (r .held) }
+
+-- r is what the mode call by its number leaves of the board b and a log
+abbrev pub Judged : Board → ℤ → ℕ → List ℕ → Ruled → List ℕ → Type 0
+Judged b track call log r log′ = Follows (modeRuling b (length log) track call) (outcomeOf b r) log log′

@@ -26,10 +26,8 @@ ghost use lib.ListN.{length};
 ghost use Rattle.board.specs.Points.{pointMost};
 ghost use Rattle.board.specs.Board.{unbrokenTest, boardOf};
 ghost use Rattle.board.specs.Log.{capacity};
-ghost use Rattle.board.specs.Cut.{ticks};
-ghost use Rattle.board.specs.Replay.{w-halt, w-step};
-ghost use Rattle.board.specs.Call.{world, gridstep, Gives, does, advancedSaid};
-ghost use Rattle.board.specs.Advance.{Ended, boardLeft};
+ghost use Rattle.board.specs.Call.{world, Gives, does, advancedSaid};
+ghost use Rattle.board.specs.Advance.{TakesTicks, Advances};
 ghost use Rattle.board.specs.declared.call.Call.the-variants as call;
 
 // Where ticks left off: what a tick changes of a board.
@@ -56,7 +54,8 @@ fn run<'a>(
     requires { ⌜ (length (now keys) ≡ pointMost) × (length (now infos) ≡ pointMost) ⌝ }
     requires { ⌜ unbrokenTest (boardOf given present (now keys) (now infos) n (from .0) kept) ≡ true ⌝ }
     requires { ⌜ kept ≤ capacity (length (now log)) ⌝ }
-    ensures { λ r. ⌜ Ended (boardOf given present (now (keys .entry)) (now (infos .entry)) n (from .0) kept) (ticks (w-halt gridstep) (w-step gridstep) (count .0) (world (boardOf given present (now (keys .entry)) (now (infos .entry)) n (from .0) kept) (now (log .entry)))) r (now (log .exit)) ⌝ }
+    ensures { λ r. ⌜ TakesTicks (boardOf given present (now (keys .entry)) (now (infos .entry)) n (from .0) kept) (count .0)
+        (now (log .entry)) r (now (log .exit)) ⌝ }
 {
     let slots = log.len() / Record::WIDTH;
     let wanted = count.0;
@@ -177,7 +176,8 @@ pub fn proceed<'a>(
     log: &mut [u8],
 ) -> Left
     requires { ⌜ (length (now keys) ≡ pointMost) × (length (now infos) ≡ pointMost) ⌝ }
-    ensures { λ r. ⌜ Gives (does (call.Advance count) (world (boardOf tracks present (now (keys .entry)) (now (infos .entry)) n (clock .0) held) (now (log .entry)))) (advancedSaid (r .answer)) (boardLeft (boardOf tracks present (now (keys .entry)) (now (infos .entry)) n (clock .0) held) r) (now (log .exit)) ⌝ }
+    ensures { λ r. ⌜ Advances (boardOf tracks present (now (keys .entry)) (now (infos .entry)) n (clock .0) held) count
+        (now (log .entry)) r (now (log .exit)) ⌝ }
 {
     let kept = held as usize;
     if !unbroken(tracks, present, clock, keys, infos, n) {

@@ -6,10 +6,11 @@ use crate::row::do_row;
 ghost use mathlib.Core.Path.{_≡_};
 ghost use Prim.Native.Nat.{_/_, min};
 ghost use Rattle.board.specs.Lists.{Executed};
+ghost use Rattle.board.specs.Row.{callWidth, replyWidth};
 
 // As many rows as there are whole calls, and whole replies for them.
 fn rows(calls: usize, replies: usize) -> usize
-    ensures { λ r. ⌜ r ≡ min (calls / 7) (replies / 28) ⌝ }
+    ensures { λ r. ⌜ r ≡ min (calls / callWidth) (replies / replyWidth) ⌝ }
 {
     let called = calls / CALL_WIDTH;
     let room = replies / REPLY_WIDTH;

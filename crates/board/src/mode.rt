@@ -17,7 +17,7 @@ ghost use lib.ListN.{length};
 ghost use Rattle.track.specs.declared.setup.Answer.the-variants as answer;
 ghost use Rattle.board.specs.Points.{pointMost, trackCount};
 ghost use Rattle.board.specs.Board.{boardOf};
-ghost use Rattle.board.specs.Mode.{Follows, modeRuling, outcomeOf};
+ghost use Rattle.board.specs.Mode.{Follows, modeRuling, Judged};
 ghost use Rattle.board.specs.Call.{Gives, does, world, answered};
 ghost use Rattle.board.specs.declared.call.Call.the-variants.{Play, Pause, Resume, Stop};
 
@@ -55,7 +55,8 @@ pub fn judge<'a>(
     log: &mut [u8],
 ) -> Ruled
     requires { ⌜ (length (now keys) ≡ pointMost) × (length (now infos) ≡ pointMost) ⌝ }
-    ensures follows { λ r. ⌜ Follows (modeRuling (boardOf tracks present (now (keys .entry)) (now (infos .entry)) n (clock .0) held) (length (now (log .entry))) track call) (outcomeOf (boardOf tracks present (now (keys .entry)) (now (infos .entry)) n (clock .0) held) r) (now (log .entry)) (now (log .exit)) ⌝ }
+    ensures follows { λ r. ⌜ Judged (boardOf tracks present (now (keys .entry)) (now (infos .entry)) n (clock .0) held) track call
+        (now (log .entry)) r (now (log .exit)) ⌝ }
     ensures inside { λ r. ⌜ r .at < trackCount ⌝ }
 {
     let first = tracks[0];

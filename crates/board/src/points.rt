@@ -6,7 +6,8 @@ ghost use mathlib.Core.Bool.{true};
 ghost use Prim.Native.Nat.{_+_, _*_, _≤_, _<_};
 ghost use lib.ListN.{length, take};
 ghost use Rattle.track.specs.Rule.{coordinateLast};
-ghost use Rattle.board.specs.Points.{pointMost, stride, keysOf, keyOf, infoOf, pointOf, ascendingFrom, firstFrom, insertRow, removeRow, infoAt, storedIn, droppedFrom, countOf, between, findFirst, findLast, nearest, key, noPoints, trackCount, keyEnd, infoEnd};
+ghost use Rattle.board.specs.Points.{pointMost, stride, keysOf, keyOf, infoOf, pointOf, ascendingFrom, firstFrom, insertRow, removeRow, infoAt, storedIn};
+ghost use Rattle.board.specs.Points.{droppedFrom, countOf, between, findFirst, findLast, nearest, key, noPoints, trackCount, keyEnd, infoEnd};
 
 // A reference point (000, section 2), as calls and queries exchange it.
 #[repr(C)]

@@ -14,7 +14,7 @@ use track::setup::Change;
 ghost use mathlib.Core.Path.{_≡_};
 ghost use Prim.Native.Nat.{_+_, _*_, _≤_};
 ghost use lib.ListN.{length, drop, take};
-ghost use Rattle.board.specs.Row.{codedAs, callOf, callAt, padded, trackNumbers, pointNumbers, numbersOf, rowDoes, RowDone};
+ghost use Rattle.board.specs.Row.{codedAs, callOf, callAt, padded, trackNumbers, pointNumbers, numbersOf, rowDoes, RowDone, callWidth, replyWidth};
 ghost use mathlib.Core.List.{_∷_, [], _++_};
 ghost use Rattle.board.specs.Log.{writeAt};
 ghost use Rattle.board.specs.Call.{replyOf, Gives, world, refused};
@@ -61,8 +61,8 @@ pub fn call_of(code: i64, a: i64, b: i64, c: i64, d: i64, e: i64, f: i64) -> Cod
 
 // The call of row i.
 fn call_at(calls: &[i64], i: usize) -> Coded
-    requires { ⌜ i * 7 + 7 ≤ length (now calls) ⌝ }
-    ensures { λ r. ⌜ codedAs r ≡ callAt (drop (i * 7) (now (calls .entry))) ⌝ }
+    requires { ⌜ i * callWidth + callWidth ≤ length (now calls) ⌝ }
+    ensures { λ r. ⌜ codedAs r ≡ callAt (drop (i * callWidth) (now (calls .entry))) ⌝ }
 {
     let at = i * CALL_WIDTH;
     call_of(
@@ -181,8 +181,8 @@ fn put_row(row: &[u64], replies: &mut [u64], at: usize)
 
 // The numbers of a reply, as many as a row has, go to a place where they fit.
 fn put_reply(told: Told, track: Track, replies: &mut [u64], at: usize)
-    requires { ⌜ at + 28 ≤ length (now replies) ⌝ }
-    ensures long { λ _. ⌜ length (numbersOf (replyOf told track)) ≡ 28 ⌝ }
+    requires { ⌜ at + replyWidth ≤ length (now replies) ⌝ }
+    ensures long { λ _. ⌜ length (numbersOf (replyOf told track)) ≡ replyWidth ⌝ }
     ensures written { λ _. ⌜ now (replies .exit) ≡ writeAt (now (replies .entry)) at (numbersOf (replyOf told track)) ⌝ }
 {
     let row = reply_row(told, track);
@@ -212,9 +212,10 @@ pub fn answer(b: Board, row: Coded, log: &mut [u8]) -> Applied
 
 // Row i is done, and its reply written.
 pub fn do_row(b: Board, calls: &[i64], i: usize, log: &mut [u8], replies: &mut [u64]) -> Board
-    requires { ⌜ i * 7 + 7 ≤ length (now calls) ⌝ }
-    requires { ⌜ i * 28 + 28 ≤ length (now replies) ⌝ }
-    ensures { λ r. ⌜ RowDone (callAt (drop (i * 7) (now (calls .entry)))) (world b (now (log .entry))) (now (replies .entry)) (i * 28) r (now (log .exit)) (now (replies .exit)) ⌝ }
+    requires { ⌜ i * callWidth + callWidth ≤ length (now calls) ⌝ }
+    requires { ⌜ i * replyWidth + replyWidth ≤ length (now replies) ⌝ }
+    ensures { λ r. ⌜ RowDone (callAt (drop (i * callWidth) (now (calls .entry)))) (world b (now (log .entry))) (now (replies .entry))
+        (i * replyWidth) r (now (log .exit)) (now (replies .exit)) ⌝ }
 {
     let row = call_at(calls, i);
     let r = answer(b, row, log);

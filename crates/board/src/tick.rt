@@ -18,7 +18,8 @@ ghost use Rattle.track.specs.Rule.{Valid, clockEnd};
 ghost use Rattle.track.specs.Grid.{gridOf};
 ghost use Rattle.track.specs.Walk.{arrival, step};
 ghost use Rattle.board.specs.Log.{writeAt, logBytes, recordWidth};
-ghost use Rattle.board.specs.Tick.{pointRecords, changeRecords, stepRecords, commandRecords, commanded, obeyed, obeyedRecords, runAll, staged, reachedBy, stirring, playBit, playingWord, InfoRule, TracksRule};
+ghost use Rattle.board.specs.Tick.{pointRecords, changeRecords, stepRecords, commandRecords, commanded, obeyed, obeyedRecords, runAll};
+ghost use Rattle.board.specs.Tick.{staged, reachedBy, stirring, playBit, playingWord, InfoRule, TracksRule};
 ghost use Rattle.board.specs.Points.{waits, commandOf};
 
 // A track after its step or a command, and the number of records staged.
@@ -79,7 +80,8 @@ fn stage_point(
     requires { ⌜ n * recordWidth + recordWidth ≤ length (now stage) ⌝ }
     requires { ⌜ InfoRule d ⌝ }
     ensures count { λ r. ⌜ r ≡ n + length (pointRecords (clock .0) track (l .0) (passes .0) d) ⌝ }
-    ensures bytes { λ r. ⌜ now (stage .exit) ≡ writeAt (now (stage .entry)) (n * recordWidth) (logBytes (pointRecords (clock .0) track (l .0) (passes .0) d)) ⌝ }
+    ensures bytes { λ r. ⌜ now (stage .exit) ≡ writeAt (now (stage .entry)) (n * recordWidth)
+        (logBytes (pointRecords (clock .0) track (l .0) (passes .0) d)) ⌝ }
 {
     if d == 0 {
         return n;
@@ -114,7 +116,8 @@ pub(crate) fn stage_change(
     requires { ⌜ n * recordWidth + recordWidth ≤ length (now stage) ⌝ }
     requires { ⌜ (t .mode ≤ 3) × (new ≤ 3) ⌝ }
     ensures count { λ r. ⌜ r ≡ n + length (changeRecords (clock .0) track t new (l .0) (passes .0)) ⌝ }
-    ensures bytes { λ r. ⌜ now (stage .exit) ≡ writeAt (now (stage .entry)) (n * recordWidth) (logBytes (changeRecords (clock .0) track t new (l .0) (passes .0))) ⌝ }
+    ensures bytes { λ r. ⌜ now (stage .exit) ≡ writeAt (now (stage .entry)) (n * recordWidth)
+        (logBytes (changeRecords (clock .0) track t new (l .0) (passes .0))) ⌝ }
 {
     let mode = t.mode;
     let event = t.action(mode, new);
@@ -196,8 +199,12 @@ fn command(t: Track, clock: Ticks, d: u32, stage: &mut [u8], n: usize) -> Staged
     requires { ⌜ Valid t ⌝ }
     requires { ⌜ InfoRule d ⌝ }
     requires { ⌜ n * recordWidth + recordWidth ≤ length (now stage) ⌝ }
-    ensures staged { λ r. ⌜ r ≡ record { track = commanded t (gridOf (t .mode) (commandOf d)); count = n + length (commandRecords (clock .0) d t (gridOf (t .mode) (commandOf d))) } ⌝ }
-    ensures bytes { λ r. ⌜ now (stage .exit) ≡ writeAt (now (stage .entry)) (n * recordWidth) (logBytes (commandRecords (clock .0) d t (gridOf (t .mode) (commandOf d)))) ⌝ }
+    ensures staged { λ r. ⌜ r ≡ record {
+      track = commanded t (gridOf (t .mode) (commandOf d));
+      count = n + length (commandRecords (clock .0) d t (gridOf (t .mode) (commandOf d)));
+    } ⌝ }
+    ensures bytes { λ r. ⌜ now (stage .exit) ≡ writeAt (now (stage .entry)) (n * recordWidth)
+        (logBytes (commandRecords (clock .0) d t (gridOf (t .mode) (commandOf d)))) ⌝ }
 {
     let mode = t.mode;
     let call = (d / Point::COMMAND % 8) as u8;
@@ -262,7 +269,8 @@ pub(crate) fn run_commands(
     requires { ⌜ (n + m) * recordWidth ≤ length (now stage) ⌝ }
     ensures tracks { λ r. ⌜ r .tracks ≡ runAll (clock .0) (take m (now (reached .entry))) (staged tracks [] []) .tracks ⌝ }
     ensures count { λ r. ⌜ r .count ≡ n + length (runAll (clock .0) (take m (now (reached .entry))) (staged tracks [] []) .records) ⌝ }
-    ensures bytes { λ r. ⌜ now (stage .exit) ≡ writeAt (now (stage .entry)) (n * recordWidth) (logBytes (runAll (clock .0) (take m (now (reached .entry))) (staged tracks [] []) .records)) ⌝ }
+    ensures bytes { λ r. ⌜ now (stage .exit) ≡ writeAt (now (stage .entry)) (n * recordWidth)
+        (logBytes (runAll (clock .0) (take m (now (reached .entry))) (staged tracks [] []) .records)) ⌝ }
     ensures word { λ r. ⌜ r .word ≡ playingWord present (r .tracks) ⌝ }
 {
     let mut next = tracks;

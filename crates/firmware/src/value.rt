@@ -99,7 +99,8 @@ pub(crate) fn play<'a>(
     log: &mut [u8],
 ) -> Answered
     requires { ⌜ (length (now keys) ≡ pointMost) × (length (now infos) ≡ pointMost) ⌝ }
-    ensures { λ r. ⌜ Answers (call.Play track) (boardOf tracks present (now (keys .entry)) (now (infos .entry)) n (clock .0) held) (now (log .entry)) r (now (log .exit)) ⌝ }
+    ensures { λ r. ⌜ Answers (call.Play track) (boardOf tracks present (now (keys .entry)) (now (infos .entry)) n (clock .0) held)
+        (now (log .entry)) r (now (log .exit)) ⌝ }
 {
     mode_call(tracks, present, clock, keys, infos, n, held, track, 1, log)
 }
@@ -116,7 +117,8 @@ pub(crate) fn pause<'a>(
     log: &mut [u8],
 ) -> Answered
     requires { ⌜ (length (now keys) ≡ pointMost) × (length (now infos) ≡ pointMost) ⌝ }
-    ensures { λ r. ⌜ Answers (call.Pause track) (boardOf tracks present (now (keys .entry)) (now (infos .entry)) n (clock .0) held) (now (log .entry)) r (now (log .exit)) ⌝ }
+    ensures { λ r. ⌜ Answers (call.Pause track) (boardOf tracks present (now (keys .entry)) (now (infos .entry)) n (clock .0) held)
+        (now (log .entry)) r (now (log .exit)) ⌝ }
 {
     mode_call(tracks, present, clock, keys, infos, n, held, track, 2, log)
 }
@@ -133,7 +135,8 @@ pub(crate) fn resume<'a>(
     log: &mut [u8],
 ) -> Answered
     requires { ⌜ (length (now keys) ≡ pointMost) × (length (now infos) ≡ pointMost) ⌝ }
-    ensures { λ r. ⌜ Answers (call.Resume track) (boardOf tracks present (now (keys .entry)) (now (infos .entry)) n (clock .0) held) (now (log .entry)) r (now (log .exit)) ⌝ }
+    ensures { λ r. ⌜ Answers (call.Resume track) (boardOf tracks present (now (keys .entry)) (now (infos .entry)) n (clock .0) held)
+        (now (log .entry)) r (now (log .exit)) ⌝ }
 {
     mode_call(tracks, present, clock, keys, infos, n, held, track, 3, log)
 }
@@ -150,7 +153,8 @@ pub(crate) fn stop<'a>(
     log: &mut [u8],
 ) -> Answered
     requires { ⌜ (length (now keys) ≡ pointMost) × (length (now infos) ≡ pointMost) ⌝ }
-    ensures { λ r. ⌜ Answers (call.Stop track) (boardOf tracks present (now (keys .entry)) (now (infos .entry)) n (clock .0) held) (now (log .entry)) r (now (log .exit)) ⌝ }
+    ensures { λ r. ⌜ Answers (call.Stop track) (boardOf tracks present (now (keys .entry)) (now (infos .entry)) n (clock .0) held)
+        (now (log .entry)) r (now (log .exit)) ⌝ }
 {
     mode_call(tracks, present, clock, keys, infos, n, held, track, 4, log)
 }

@@ -25,7 +25,8 @@ pub fn do_line(b: Board, line: &[u8], log: &mut [u8]) -> Applied
 // The first bytes of a buffer are done as a line.
 fn do_first(b: Board, bytes: &[u8], n: usize, log: &mut [u8]) -> Applied
     requires { ⌜ n ≤ length (now bytes) ⌝ }
-    ensures { λ r. ⌜ Gives (rowDoes (lineCall (take n (now (bytes .entry)))) (world b (now (log .entry)))) (replyOf (r .told) (r .track)) (r .board) (now (log .exit)) ⌝ }
+    ensures { λ r. ⌜ Gives (rowDoes (lineCall (take n (now (bytes .entry)))) (world b (now (log .entry))))
+        (replyOf (r .told) (r .track)) (r .board) (now (log .exit)) ⌝ }
 {
     do_line(b, &bytes[0..n], log)
 }
