@@ -33,6 +33,8 @@ use Rattle.board.specs.Setup.{boardWith}
 use Rattle.board.proofs.Board as board-type
 use Rattle.board.proofs.Board.Laws as board-laws
 use Rattle.firmware.proofs.Fields.{Tracks, tracksTy, boardVal, boardVals, tracks-is}
+use Rattle.board.specs.Points.{trackCount}
+use Rattle.firmware.proofs.Layout.{trackBytes}
 
 abbrev One : RattleType
 One = track-type.the-row
@@ -48,7 +50,7 @@ one-tells : Tells One (Is One) (laws.vals track-type.the-type track-laws.the-law
 one-tells = laws.tells track-type.the-type track-laws.the-laws
 
 tracks-tell : (ts : List Track) (vs : List Val) → Is Tracks ts vs → vs ≡ array-vals (laws.vals track-type.the-type track-laws.the-laws) ts
-tracks-tell = array-tells One (laws.vals track-type.the-type track-laws.the-laws) one-tells 16
+tracks-tell = array-tells One (laws.vals track-type.the-type track-laws.the-laws) one-tells trackCount
 
 module _ {M : Type 1} (𝓤 : URA M) (H : Heap 𝓤) (A : Atoms 𝓤) (W : Given 𝓤 H A) (at off : ℕ) (b : Board)
     (is : Is board-type.the-row b (boardVal b ∷ [])) (i : ℕ) (lt : i < length (b .tracks)) where
@@ -63,7 +65,7 @@ module _ {M : Type 1} (𝓤 : URA M) (H : Heap 𝓤) (A : Atoms 𝓤) (W : Given
   tracksAt = off + 0
 
   abbrev pub trackAt : Val → Item 𝓤
-  trackAt v = ‵ (fat fullShare (rawTy track-laws.mir) at (i * 48 + tracksAt) v)
+  trackAt v = ‵ (fat fullShare (rawTy track-laws.mir) at (i * trackBytes + tracksAt) v)
 
   abbrev Back : Val → SProp 𝓤
   Back u = wand 𝓤 (H .at fullShare tracksTy at tracksAt u) (H .at fullShare board-laws.mir at off (vstruct (setV (boardVals b) 0 u)))
@@ -76,12 +78,12 @@ module _ {M : Type 1} (𝓤 : URA M) (H : Heap 𝓤) (A : Atoms 𝓤) (W : Given
   track-out =
       qed W (board b ∷ []) ∵
       use1 W (‵ (fat fullShare tracksTy at tracksAt (getV (boardVals b) 0)) ⊛ raw (all 𝓤 Back)) (sub {K = Unit {0}} {W = W} tt 0 refl (whole tt) .out) $
-      split ! $ owned ! Tracks (Is Tracks) (array-makes 𝓤 H A W One one-makes 16) (b .tracks) _ (tracks-is b is) $ move ! (1 ∷ 0 ∷ []) $
+      split ! $ owned ! Tracks (Is Tracks) (array-makes 𝓤 H A W One one-makes trackCount) (b .tracks) _ (tracks-is b is) $ move ! (1 ∷ 0 ∷ []) $
       use2 W (‵ (partAt Tracks fullShare (b .tracks) at tracksAt)) (part-in 𝓤 H A W Tracks refl fullShare (b .tracks) at tracksAt _) $
-      use1 W (‵ (arr-parts (shares One) 16 .part fullShare (b .tracks) at tracksAt)) (array-apart 𝓤 H A W One fullShare tt 16 (b .tracks) at tracksAt) $
+      use1 W (‵ (arr-parts (shares One) trackCount .part fullShare (b .tracks) at tracksAt)) (array-apart 𝓤 H A W One fullShare tt trackCount (b .tracks) at tracksAt) $
       fsplit ! $ drop ! $
       elem-out ! One (Is One) (shows 𝓤 H A One) (laws.vals track-type.the-type track-laws.the-laws) one-tells fullShare (b .tracks) i noTrack at tracksAt lt (λ p.
-      rewrite ! 0 (λ (o : ℕ). ‵ (cellAt fullShare (One .mir) (trackVal (getD (b .tracks) i noTrack) ∷ []) at o)) (place-is 48 tracksAt i) refl $
+      rewrite ! 0 (λ (o : ℕ). ‵ (cellAt fullShare (One .mir) (trackVal (getD (b .tracks) i noTrack) ∷ []) at o)) (place-is trackBytes tracksAt i) refl $
       move ! (1 ∷ []) $ drop ! $ done !)
 
   pub track-in : (t : Track) → Is One t (trackVal t ∷ []) → Is board-type.the-row (withTrack b i t) (boardVal (withTrack b i t) ∷ []) →
@@ -90,11 +92,11 @@ module _ {M : Type 1} (𝓤 : URA M) (H : Heap 𝓤) (A : Atoms 𝓤) (W : Given
       let ts = set (b .tracks) i t in
       let v = getV (boardVals (withTrack b i t)) 0 in
       qed W ((trackAt (trackVal t) ⊛ rest) ∷ []) ∵ split ! $
-      rewrite ! 0 (λ (o : ℕ). ‵ (cellAt fullShare (One .mir) (trackVal t ∷ []) at o)) (sym (place-is 48 tracksAt i)) refl $
+      rewrite ! 0 (λ (o : ℕ). ‵ (cellAt fullShare (One .mir) (trackVal t ∷ []) at o)) (sym (place-is trackBytes tracksAt i)) refl $
       move ! (1 ∷ []) $ split ! $ owned ! One (Is One) one-makes t (trackVal t ∷ []) t-is $ move ! (3 ∷ 0 ∷ 1 ∷ []) $
       elem-put ! One fullShare (b .tracks) i t (trackVal t ∷ []) at tracksAt lt $
-      feqI ! ℕ (length ts) 16 (tracks-is (withTrack b i t) is′ .1 .0 .1) $ fjoin ! $
-      use1 W (‵ (partAt Tracks fullShare ts at tracksAt)) (array-whole 𝓤 H A W One fullShare 16 ts at tracksAt) $
+      feqI ! ℕ (length ts) trackCount (tracks-is (withTrack b i t) is′ .1 .0 .1) $ fjoin ! $
+      use1 W (‵ (partAt Tracks fullShare ts at tracksAt)) (array-whole 𝓤 H A W One fullShare trackCount ts at tracksAt) $
       use1 W (some (λ (u : Val). ‵ (fat fullShare tracksTy at tracksAt u) ⊛ ‵ (Tracks .own ts (u ∷ []))))
       (part-out 𝓤 H A W Tracks refl fullShare ts at tracksAt) $ pick ! (λ u.
       split ! $ move ! (1 ∷ []) $ facts ! Tracks (Is Tracks) (shows 𝓤 H A Tracks) ts (u ∷ []) (λ p.

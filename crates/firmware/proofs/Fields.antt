@@ -28,19 +28,20 @@ use Rattle.track.proofs.Ticks.Laws as ticks-laws
 use Rattle.board.specs.declared.Board.{Board}
 use Rattle.board.proofs.Board as board-type
 use Rattle.board.proofs.Board.Laws as board-laws
+use Rattle.board.specs.Points.{pointMost, trackCount}
 
 -- the tracks, and a row of points: the types, and what the machine takes them for
 abbrev pub Tracks : RattleType
-Tracks = Array track-type.the-row 16
+Tracks = Array track-type.the-row trackCount
 
 abbrev pub tracksTy : Ty
-tracksTy = tyArray track-laws.mir 16
+tracksTy = tyArray track-laws.mir trackCount
 
 abbrev pub Row : RattleType
-Row = Array u32 256
+Row = Array u32 pointMost
 
 abbrev pub rowTy : Ty
-rowTy = tyArray (tyInt w32) 256
+rowTy = tyArray (tyInt w32) pointMost
 
 -- the board's value, its fields' values, and those of the points
 abbrev pub boardVal : Board → Val
@@ -72,7 +73,7 @@ module _ (R S : RattleType) (into : R .Denot → S .Denot) (same : (x : R .Denot
 module _ (b : Board) (is : Is board-type.the-row b (boardVal b ∷ [])) where
   pub tracks-is : Is Tracks (b .tracks) (getV (boardVals b) 0 ∷ [])
   tracks-is =
-      array-as track-type.the-row (track-type.the-field .row) (track-type.the-field .into) (λ x v p. p) 16 (b .tracks) _
+      array-as track-type.the-row (track-type.the-field .row) (track-type.the-field .into) (λ x v p. p) trackCount (b .tracks) _
       (laws.owed board-type.the-type board-laws.the-laws b _ is .0)
 
   pub present-is : Is u16 (b .present) (getV (boardVals b) 1 ∷ [])
@@ -83,12 +84,12 @@ module _ (b : Board) (is : Is board-type.the-row b (boardVal b ∷ [])) where
 
   pub keys-is : Is Row (b .points .keys) (getV (pointsVals b) 0 ∷ [])
   keys-is =
-      array-as u32 u32 (λ x. x) (λ x v p. p) 256 (b .points .keys) _
+      array-as u32 u32 (λ x. x) (λ x v p. p) pointMost (b .points .keys) _
       (laws.owed points-type.the-type points-laws.the-laws (b .points) _ points-are .0)
 
   pub infos-is : Is Row (b .points .infos) (getV (pointsVals b) 1 ∷ [])
   infos-is =
-      array-as u32 u32 (λ x. x) (λ x v p. p) 256 (b .points .infos) _
+      array-as u32 u32 (λ x. x) (λ x v p. p) pointMost (b .points .infos) _
       (laws.owed points-type.the-type points-laws.the-laws (b .points) _ points-are .1 .0)
 
   pub count-is : Is u64 (b .points .count) (getV (pointsVals b) 2 ∷ [])
@@ -103,7 +104,7 @@ module _ (b : Board) (is : Is board-type.the-row b (boardVal b ∷ [])) where
   module _ {M : Type 1} (𝓤 : URA M) (H : Heap 𝓤) (A : Atoms 𝓤) (W : Given 𝓤 H A) where
     pub tracks-typed : Holds (hasTy tracksTy (getV (boardVals b) 0)) × WT (getV (boardVals b) 0)
     tracks-typed =
-        array-lawful 𝓤 H A W track-type.the-row (laws.lawful track-type.the-type track-laws.the-laws 𝓤 H A W) 16 .typed (b .tracks) _ tracks-is .0
+        array-lawful 𝓤 H A W track-type.the-row (laws.lawful track-type.the-type track-laws.the-laws 𝓤 H A W) trackCount .typed (b .tracks) _ tracks-is .0
 
     pub present-typed : Holds (hasTy (tyInt w16) (getV (boardVals b) 1)) × WT (getV (boardVals b) 1)
     present-typed = uint-lawful 𝓤 H A W w16 .typed (b .present) _ present-is .0

@@ -63,6 +63,7 @@ use Rattle.firmware.proofs.Fields.{Tracks, boardVal, boardVals, pointsV
 use Rattle.firmware.proofs.Fields.{count-is, clock-is, held-is, tracks-typed, present-typed, count-typed, clock-typed, held-typed}
 use Rattle.firmware.proofs.Rows.{keysAt, infosAt, rowRef, keysOwn, infosOwn, lentRows, rows-lent, rows-back}
 use Rattle.firmware.proofs.LentCode.{Lent, boardRef, nexts, body, core-ended, lent-ended, core-clauses, lent-clauses, Core, Thin}
+use Rattle.board.specs.Points.{pointMost, trackCount}
 
 -- what a call promises, whose answer says a reply
 abbrev pub promised : {A : Type 0} → (ℤ → Call) → (A → Reply) → Board → ℤ → List ℕ → Board → A → List ℕ → Type 0
@@ -182,8 +183,8 @@ module _ (E : RattleType) (Says : Board → ℤ → List ℕ → Board → E .De
 
           abbrev to-core : Core D Leaves 𝓤 H A .Ghost
           to-core =
-              let keys = sliceVal (at, keysAt off) 256 ∷ [] in
-              let infos = sliceVal (at, infosAt off) 256 ∷ [] in
+              let keys = sliceVal (at, keysAt off) pointMost ∷ [] in
+              let infos = sliceVal (at, infosAt off) pointMost ∷ [] in
               let field : ℕ → List Val = λ k. getV (boardVals h) k ∷ [] in
               let count = getV (pointsVals h) 2 ∷ [] in (
                 (
@@ -212,7 +213,7 @@ module _ (E : RattleType) (Says : Board → ℤ → List ℕ → Board → E .De
               move ! (2 ∷ []) $ split ! $ move ! (1 ∷ 2 ∷ []) $ fjoin ! $ move ! (1 ∷ 0 ∷ []) $ fjoin ! $
               owned ! ticks-type.the-row (Is ticks-type.the-row) (laws.makes ticks-type.the-type ticks-laws.the-plain 𝓤 H A) (h .clock) _ (clock-is h g) $
               fjoin ! $ owned ! u16 (Is u16) (uint-makes 𝓤 H A W w16) (h .present) _ (present-is h g) $ fjoin ! $
-              owned ! Tracks (Is Tracks) (array-makes 𝓤 H A W track-type.the-row (laws.makes track-type.the-type track-laws.the-plain 𝓤 H A) 16)
+              owned ! Tracks (Is Tracks) (array-makes 𝓤 H A W track-type.the-row (laws.makes track-type.the-type track-laws.the-plain 𝓤 H A) trackCount)
               (h .tracks) _ (tracks-is h g) $ fjoin ! $
               move ! (1 ∷ 0 ∷ []) $ join ! $ frame ! $ check ! (keys-is h g .1 .0 .1, infos-is h g .1 .0 .1) $ done !
 

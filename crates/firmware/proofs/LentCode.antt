@@ -24,7 +24,7 @@ use denote.Triple.Spec.{tripleOf}
 use denote.Triple.Statement.{Contract}
 use denote.Triple.Clauses.{Ended, Clauses, closing}
 use denote.Exit.{yes}
-use Rattle.board.specs.Points.{pointMost}
+use Rattle.board.specs.Points.{pointMost, trackCount}
 use Rattle.track.proofs.Track as track-type
 use Rattle.track.proofs.Ticks as ticks-type
 use Rattle.track.proofs.Ticks.Laws as ticks-laws
@@ -63,9 +63,9 @@ body core stores =
     (seq (assign (place 6 []) (rvOpd (copy (in-board (field 1 ∷ [])))))
     (seq (assign (place 7 []) (rvOpd (copy (in-board (field 3 ∷ [])))))
     (seq (assign (place 8 []) (addrOf (in-board (field 2 ∷ field 0 ∷ []))))
-    (seq (assign (place 9 []) (aggregate (copy (place 8 []) ∷ int w64 256 ∷ [])))
+    (seq (assign (place 9 []) (aggregate (copy (place 8 []) ∷ int w64 pointMost ∷ [])))
     (seq (assign (place 10 []) (addrOf (in-board (field 2 ∷ field 1 ∷ []))))
-    (seq (assign (place 11 []) (aggregate (copy (place 10 []) ∷ int w64 256 ∷ [])))
+    (seq (assign (place 11 []) (aggregate (copy (place 10 []) ∷ int w64 pointMost ∷ [])))
     (seq (assign (place 12 []) (rvOpd (copy (in-board (field 2 ∷ field 2 ∷ [])))))
     (seq (assign (place 13 []) (rvOpd (copy (in-board (field 4 ∷ [])))))
     (seq (assign (place 14 []) (addrOf (place 3 (field 0 ∷ deref (tyInt w8) ∷ []))))
@@ -94,7 +94,7 @@ core-ended D =
             lifetimes = 2;
             outlives = [];
             params =
-                ArrayOf (plain (λ _. track-type.the-row)) (λ _. tt) 16 ∷ plain (λ _. u16) ∷ plain (λ _. ticks-type.the-row) ∷
+                ArrayOf (plain (λ _. track-type.the-row)) (λ _. tt) trackCount ∷ plain (λ _. u16) ∷ plain (λ _. ticks-type.the-row) ∷
                 SliceRefOf (0 ∷ []) tt (plain (λ _. u32)) (λ _. tt) ∷ SliceRefOf (0 ∷ []) tt (plain (λ _. u32)) (λ _. tt) ∷
                 plain (λ _. usize) ∷ plain (λ _. u64) ∷ plain (λ _. i64) ∷ SliceRefMutOf (1 ∷ []) tt (plain (λ _. u8)) (λ _. tt) ∷ [];
             result = plain (λ _. D);

@@ -44,10 +44,12 @@ use Rattle.firmware.proofs.Fields.{boardVal, tracks-is, held-typed}
 use Rattle.firmware.proofs.Element.{trackVal, withTrack, trackAt, rest, track-out, track-in}
 use Rattle.firmware.proofs.LentCode.{Lent, in-board, lentFn, Core, Thin}
 use Rattle.firmware.proofs.Lent.{promised, takes, pairs, rooms, given, board-at, exits, leaves, to-call, Walked, spec-of}
+use Rattle.board.specs.Points.{trackCount}
+use Rattle.firmware.proofs.Layout.{trackBytes}
 
 abbrev stores : Body
 stores =
-    seq (assign (place 12 []) (op2 (mul unsigned) (copy (place 4 (field 0 ∷ []))) (int w64 48)))
+    seq (assign (place 12 []) (op2 (mul unsigned) (copy (place 4 (field 0 ∷ []))) (int w64 trackBytes)))
     (seq (assign (place 16 []) (addrOf (in-board (field 0 ∷ []))))
     (seq (assign (place 17 []) (op2 offset (copy (place 16 [])) (copy (place 12 []))))
     (seq (assign (place 17 (deref track-laws.mir ∷ [])) (rvOpd (copy (place 4 (field 1 ∷ [])))))
@@ -77,10 +79,10 @@ put-is b g i t p =
     let old = laws.owed board-type.the-type board-laws.the-laws b _ g in
     let us = set (old .0 .0) i (trackVal t) in
     let l = length-map (set (b .tracks) i t) into ∙ length-set (b .tracks) i t ∙ sym (length-map (b .tracks) into) ∙ old .0 .1 .0 .1 in
-    let new : Is (array-field track-type.the-field 16 .row) (map into (set (b .tracks) i t)) (vstruct (ofList us) ∷ []) =
+    let new : Is (array-field track-type.the-field trackCount .row) (map into (set (b .tracks) i t)) (vstruct (ofList us) ∷ []) =
     (us, ((refl, l), each-put (b .tracks) (old .0 .0) i t (trackVal t) (old .0 .1 .1) p)) in
     laws.owes board-type.the-type board-laws.the-laws (withTrack b i t) (
-      subst (Is (array-field track-type.the-field 16 .row) (map into (set (b .tracks) i t)))
+      subst (Is (array-field track-type.the-field trackCount .row) (map into (set (b .tracks) i t)))
           (board-laws.the-laws .0 .tells (map into (set (b .tracks) i t)) (vstruct (ofList us) ∷ []) new) new,
       old .1,
     )
@@ -94,7 +96,7 @@ after-is b g r v is =
     laws.owes board-type.the-type board-laws.the-laws (boardBy b r) (put .0, (put .1 .0, (put .1 .1 .0, (put .1 .1 .1 .0, (new .1 .1 .0, tt)))))
 
 -- a track's place is within the machine's numbers
-small : (i : ℕ) → i < 16 → i * 48 < 2 ^ 64
+small : (i : ℕ) → i < trackCount → i * trackBytes < 2 ^ 64
 small i lt = omega arith
 
 abbrev Says : (ℤ → Call) → Board → ℤ → List ℕ → Board → ℕ → List ℕ → Type 0

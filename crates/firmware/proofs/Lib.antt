@@ -1,3 +1,4 @@
+pub mod Layout
 pub mod Numbering
 pub mod Fields
 pub mod Rows

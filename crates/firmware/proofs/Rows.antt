@@ -34,13 +34,15 @@ use Rattle.board.specs.declared.Board.{Board}
 use Rattle.board.proofs.Board as board-type
 use Rattle.board.proofs.Board.Laws as board-laws
 use Rattle.firmware.proofs.Fields.{Row, rowTy, boardVal, pointsVals, keys-is, infos-is}
+use Rattle.board.specs.Points.{pointMost}
+use Rattle.firmware.proofs.Layout.{pointsAt, rowBytes}
 
 -- where the rows of the board at off stand
 abbrev pub keysAt : ℕ → ℕ
-keysAt off = off + 776 + 0
+keysAt off = off + pointsAt + 0
 
 abbrev pub infosAt : ℕ → ℕ
-infosAt off = off + 776 + 1024
+infosAt off = off + pointsAt + rowBytes
 
 -- a row as a slice, what it owns while it is lent for κ, and what the lender waits for
 module _ (ys : List ℕ) (b o : ℕ) where
@@ -48,13 +50,13 @@ module _ (ys : List ℕ) (b o : ℕ) where
   rowRef γ = record { ptr = (b, o); name = γ; now = ys }
 
   abbrev pub rowOwn : Lft → GName → Fml
-  rowOwn κ γ = ShrSlice (named 0) κ u32 .own (rowRef γ) (sliceVal (b, o) 256 ∷ [])
+  rowOwn κ γ = ShrSlice (named 0) κ u32 .own (rowRef γ) (sliceVal (b, o) pointMost ∷ [])
 
   abbrev rowOut : Share → Fml
-  rowOut q = arr-parts (shares u32) 256 .part q ys b o
+  rowOut q = arr-parts (shares u32) pointMost .part q ys b o
 
   rows-tell : (vs : List Val) → Is Row ys vs → vs ≡ array-vals (uint-vals w32) ys
-  rows-tell vs p = array-tells u32 (uint-vals w32) (uint-tells w32) 256 ys vs p
+  rows-tell vs p = array-tells u32 (uint-vals w32) (uint-tells w32) pointMost ys vs p
 
 -- a row of the points of the board b
 abbrev pub keysOwn : Board → ℕ → ℕ → Lft → GName → Fml
@@ -90,9 +92,9 @@ module _ {M : Type 1} (𝓤 : URA M) (H : Heap 𝓤) (A : Atoms 𝓤) (W : Given
           (via 𝓤 (sep 𝓤 (sem 𝓤 H A cell) (all 𝓤 Back)) (p .out)
           (monoR 𝓤 (sem 𝓤 H A cell)
           (subst (λ (j : Item 𝓤). ent 𝓤 (all 𝓤 Back) (wand 𝓤 (sem 𝓤 H A cell) (mean 𝓤 H A j))) (p .same) (allE 𝓤 Back v)))) $ split ! $
-          owned ! Row (Is Row) (array-makes 𝓤 H A W u32 (uint-makes 𝓤 H A W w32) 256) ys (v ∷ []) is $ move ! (1 ∷ 0 ∷ []) $
+          owned ! Row (Is Row) (array-makes 𝓤 H A W u32 (uint-makes 𝓤 H A W w32) pointMost) ys (v ∷ []) is $ move ! (1 ∷ 0 ∷ []) $
           use2 W (‵ (partAt Row q ys b o)) (part-in 𝓤 H A W Row refl q ys b o v) $
-          use1 W (‵ (rowOut ys b o q)) (array-apart 𝓤 H A W u32 q tt 256 ys b o) $
+          use1 W (‵ (rowOut ys b o q)) (array-apart 𝓤 H A W u32 q tt pointMost ys b o) $
           use1 W (later (some (λ (γ : GName). ‵ (rowOwn ys b o κ γ) ⊛ ‵ (flent κ (rowOut ys b o q))))) as-slice $ await ! tt $ pick ! (λ γ.
           split ! $ move ! (0 ∷ 2 ∷ []) $ at-once ! $
           show ! (λ (γ′ : GName). sep 𝓤 (sem 𝓤 H A (rowOwn ys b o κ γ′)) (mean 𝓤 H A rowKept)) γ $ done !)
@@ -103,7 +105,7 @@ module _ {M : Type 1} (𝓤 : URA M) (H : Heap 𝓤) (A : Atoms 𝓤) (W : Given
       row-back : ent 𝓤 (sep 𝓤 (A .dead κ) (mean 𝓤 H A rowKept)) (H .⇛ (mean 𝓤 H A i))
       row-back =
           qed W (‵ (fdead κ) ∷ rowKept ∷ []) ∵ updating ! $ move ! (1 ∷ []) $ split ! $ move ! (2 ∷ 1 ∷ []) $ lent-back ! tt $
-          use1 W (‵ (partAt Row q ys b o)) (array-whole 𝓤 H A W u32 q 256 ys b o) $
+          use1 W (‵ (partAt Row q ys b o)) (array-whole 𝓤 H A W u32 q pointMost ys b o) $
           use1 W (some (λ (u : Val). ‵ (fat q rowTy b o u) ⊛ ‵ (Row .own ys (u ∷ [])))) (part-out 𝓤 H A W Row refl q ys b o) $ pick ! (λ u.
           split ! $ move ! (1 ∷ []) $ facts ! Row (Is Row) (shows 𝓤 H A Row) ys (u ∷ []) (λ p.
           rewrite ! 0 (λ (w : Val). ‵ (fat q rowTy b o w)) (ap only (rows-tell ys b o (u ∷ []) p ∙ sym (rows-tell ys b o (v ∷ []) is))) refl $
