@@ -23,7 +23,6 @@ ghost use mathlib.Core.Path.{_≡_};
 ghost use mathlib.Core.Bool.{true};
 ghost use Prim.Native.Nat.{_≤_};
 ghost use lib.ListN.{length};
-ghost use Rattle.board.specs.Points.{pointMost};
 ghost use Rattle.board.specs.Board.{unbrokenTest, boardOf};
 ghost use Rattle.board.specs.Log.{capacity};
 ghost use Rattle.board.specs.Call.{world, Gives, does, advancedSaid};
@@ -51,7 +50,6 @@ fn run<'a>(
     count: Ticks,
     log: &mut [u8],
 ) -> Left
-    requires { ⌜ (length (now keys) ≡ pointMost) × (length (now infos) ≡ pointMost) ⌝ }
     requires { ⌜ unbrokenTest (boardOf given present (now keys) (now infos) n (from .0) kept) ≡ true ⌝ }
     requires { ⌜ kept ≤ capacity (length (now log)) ⌝ }
     ensures { λ r. ⌜ TakesTicks (boardOf given present (now (keys .entry)) (now (infos .entry)) n (from .0) kept) (count .0)
@@ -175,7 +173,6 @@ pub fn proceed<'a>(
     count: i64,
     log: &mut [u8],
 ) -> Left
-    requires { ⌜ (length (now keys) ≡ pointMost) × (length (now infos) ≡ pointMost) ⌝ }
     ensures { λ r. ⌜ Advances (boardOf tracks present (now (keys .entry)) (now (infos .entry)) n (clock .0) held) count
         (now (log .entry)) r (now (log .exit)) ⌝ }
 {

@@ -15,7 +15,7 @@ ghost use mathlib.Core.Path.{_≡_};
 ghost use Prim.Native.Nat.{_<_};
 ghost use lib.ListN.{length};
 ghost use Rattle.track.specs.declared.setup.Answer.the-variants as answer;
-ghost use Rattle.board.specs.Points.{pointMost, trackCount};
+ghost use Rattle.board.specs.Points.{trackCount};
 ghost use Rattle.board.specs.Board.{boardOf};
 ghost use Rattle.board.specs.Mode.{Follows, modeRuling, Judged};
 ghost use Rattle.board.specs.Call.{Gives, does, world, answered};
@@ -54,7 +54,6 @@ pub fn judge<'a>(
     call: u8,
     log: &mut [u8],
 ) -> Ruled
-    requires { ⌜ (length (now keys) ≡ pointMost) × (length (now infos) ≡ pointMost) ⌝ }
     ensures follows { λ r. ⌜ Judged (boardOf tracks present (now (keys .entry)) (now (infos .entry)) n (clock .0) held) track call
         (now (log .entry)) r (now (log .exit)) ⌝ }
     ensures inside { λ r. ⌜ r .at < trackCount ⌝ }

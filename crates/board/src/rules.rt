@@ -9,7 +9,7 @@ use track::number::in_range;
 ghost use mathlib.Core.Path.{_≡_};
 ghost use Prim.Native.Nat.{_+_, _^_, _≤_, _<_};
 ghost use lib.ListN.{length, take};
-ghost use Rattle.board.specs.Points.{pointMost, trackCount};
+ghost use Rattle.board.specs.Points.{trackCount};
 ghost use Rattle.board.specs.Board.{isPresent, tracksTest, placeTest, deedTest, pointsTest, unbrokenParts, foundIn};
 ghost use Rattle.track.specs.Rule.{soundTest};
 ghost use mathlib.Core.Bool.{false, not, _||_};
@@ -160,13 +160,18 @@ pub(crate) fn unbroken<'a>(
     infos: &'a [u32],
     n: usize,
 ) -> bool
-    requires { ⌜ (length (now keys) ≡ pointMost) × (length (now infos) ≡ pointMost) ⌝ }
     ensures { λ r. ⌜ r ≡ unbrokenParts present tracks clock (now (keys .entry)) (now (infos .entry)) n ⌝ }
 {
     if Ticks::END < clock.0 {
         return false;
     }
     if Points::MOST < n {
+        return false;
+    }
+    if keys.len() != Points::MOST {
+        return false;
+    }
+    if infos.len() != Points::MOST {
         return false;
     }
     if !tracks_kept(tracks, present, clock) {

@@ -34,7 +34,7 @@ use Rattle.board.proofs.Board as board-type
 use Rattle.board.proofs.Board.Laws as board-laws
 use Rattle.firmware.proofs.Fields.{Tracks, tracksTy, boardVal, boardVals, tracks-is}
 use Rattle.board.specs.Points.{trackCount}
-use Rattle.firmware.proofs.Layout.{trackBytes}
+use Rattle.firmware.proofs.Offsets.{trackBytes}
 
 abbrev One : RattleType
 One = track-type.the-row

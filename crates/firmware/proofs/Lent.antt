@@ -215,7 +215,7 @@ module _ (E : RattleType) (Says : Board → ℤ → List ℕ → Board → E .De
               fjoin ! $ owned ! u16 (Is u16) (uint-makes 𝓤 H A W w16) (h .present) _ (present-is h g) $ fjoin ! $
               owned ! Tracks (Is Tracks) (array-makes 𝓤 H A W track-type.the-row (laws.makes track-type.the-type track-laws.the-plain 𝓤 H A) trackCount)
               (h .tracks) _ (tracks-is h g) $ fjoin ! $
-              move ! (1 ∷ 0 ∷ []) $ join ! $ frame ! $ check ! (keys-is h g .1 .0 .1, infos-is h g .1 .0 .1) $ done !
+              move ! (1 ∷ 0 ∷ []) $ join ! $ frame ! $ done !
 
         pub to-call : (core : Name) (C : Calls 𝓤 H) (Λ : Loops 𝓤 H) → FmC 𝓤 H (W .laws) C → Triple 𝓤 (C core) (Core D Leaves 𝓤 H A) →
             (stores : Body) → Room u8 (length ys) →

@@ -125,7 +125,7 @@ module _ (D : RattleType) (Leaves : Board → ℤ → List ℕ → D .Denot → 
       let infos = now (a .1 .1 .1 .1 .0) in
       record {
         ghost = Unit {0};
-        requires = λ _. fact 𝓤 ((length keys ≡ pointMost) × (length infos ≡ pointMost));
+        requires = λ _. emp 𝓤;
         ensures = λ _ r e.
             fact 𝓤
             (Leaves (boardOf (a .0) (a .1 .0) keys infos (a .1 .1 .1 .1 .1 .0) (a .1 .1 .0 .0) (a .1 .1 .1 .1 .1 .1 .0)) (a .1 .1 .1 .1 .1 .1 .1 .0)

@@ -45,7 +45,7 @@ use Rattle.firmware.proofs.Element.{trackVal, withTrack, trackAt, rest,
 use Rattle.firmware.proofs.LentCode.{Lent, in-board, lentFn, Core, Thin}
 use Rattle.firmware.proofs.Lent.{promised, takes, pairs, rooms, given, board-at, exits, leaves, to-call, Walked, spec-of}
 use Rattle.board.specs.Points.{trackCount}
-use Rattle.firmware.proofs.Layout.{trackBytes}
+use Rattle.firmware.proofs.Offsets.{trackBytes}
 
 abbrev stores : Body
 stores =

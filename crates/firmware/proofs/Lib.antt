@@ -1,4 +1,4 @@
-pub mod Layout
+pub mod Offsets
 pub mod Numbering
 pub mod Fields
 pub mod Rows

@@ -35,7 +35,7 @@ use Rattle.board.proofs.Board as board-type
 use Rattle.board.proofs.Board.Laws as board-laws
 use Rattle.firmware.proofs.Fields.{Row, rowTy, boardVal, pointsVals, keys-is, infos-is}
 use Rattle.board.specs.Points.{pointMost}
-use Rattle.firmware.proofs.Layout.{pointsAt, rowBytes}
+use Rattle.firmware.proofs.Offsets.{pointsAt, rowBytes}
 
 -- where the rows of the board at off stand
 abbrev pub keysAt : ℕ → ℕ

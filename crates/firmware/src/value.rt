@@ -6,8 +6,6 @@ use track::Ticks;
 use track::Track;
 use track::setup::Answer;
 ghost use mathlib.Core.Path.{_≡_};
-ghost use lib.ListN.{length};
-ghost use Rattle.board.specs.Points.{pointMost};
 ghost use Rattle.board.specs.Board.{boardOf};
 ghost use Rattle.board.specs.Call.{advancedSaid};
 ghost use Rattle.board.specs.declared.call.Call.the-variants as call;
@@ -60,7 +58,6 @@ fn mode_call<'a>(
     call: u8,
     log: &mut [u8],
 ) -> Answered
-    requires { ⌜ (length (now keys) ≡ pointMost) × (length (now infos) ≡ pointMost) ⌝ }
     ensures { λ r. ⌜ Rules call (boardOf tracks present (now (keys .entry)) (now (infos .entry)) n (clock .0) held) track (now (log .entry)) r (now (log .exit)) ⌝ }
 {
     let r = judge(
@@ -98,7 +95,6 @@ pub(crate) fn play<'a>(
     track: i64,
     log: &mut [u8],
 ) -> Answered
-    requires { ⌜ (length (now keys) ≡ pointMost) × (length (now infos) ≡ pointMost) ⌝ }
     ensures { λ r. ⌜ Answers (call.Play track) (boardOf tracks present (now (keys .entry)) (now (infos .entry)) n (clock .0) held)
         (now (log .entry)) r (now (log .exit)) ⌝ }
 {
@@ -116,7 +112,6 @@ pub(crate) fn pause<'a>(
     track: i64,
     log: &mut [u8],
 ) -> Answered
-    requires { ⌜ (length (now keys) ≡ pointMost) × (length (now infos) ≡ pointMost) ⌝ }
     ensures { λ r. ⌜ Answers (call.Pause track) (boardOf tracks present (now (keys .entry)) (now (infos .entry)) n (clock .0) held)
         (now (log .entry)) r (now (log .exit)) ⌝ }
 {
@@ -134,7 +129,6 @@ pub(crate) fn resume<'a>(
     track: i64,
     log: &mut [u8],
 ) -> Answered
-    requires { ⌜ (length (now keys) ≡ pointMost) × (length (now infos) ≡ pointMost) ⌝ }
     ensures { λ r. ⌜ Answers (call.Resume track) (boardOf tracks present (now (keys .entry)) (now (infos .entry)) n (clock .0) held)
         (now (log .entry)) r (now (log .exit)) ⌝ }
 {
@@ -152,7 +146,6 @@ pub(crate) fn stop<'a>(
     track: i64,
     log: &mut [u8],
 ) -> Answered
-    requires { ⌜ (length (now keys) ≡ pointMost) × (length (now infos) ≡ pointMost) ⌝ }
     ensures { λ r. ⌜ Answers (call.Stop track) (boardOf tracks present (now (keys .entry)) (now (infos .entry)) n (clock .0) held)
         (now (log .entry)) r (now (log .exit)) ⌝ }
 {

@@ -166,6 +166,15 @@ module _ (present : ℕ) (ts : List Track) (clock : Ticks) (keys infos : List �
   unfolding unbrokenParts
   parts-count h = simp (lt-leb _ _ h, and-false)
 
+  -- a row of another length
+  pub parts-keys : (length keys ≡ pointMost → ⊥) → false ≡ unbrokenParts present ts clock keys infos n
+  unfolding unbrokenParts shapeTest
+  parts-keys h = simp (ne-eqb _ _ h, and-false)
+
+  pub parts-infos : (length infos ≡ pointMost → ⊥) → false ≡ unbrokenParts present ts clock keys infos n
+  unfolding unbrokenParts shapeTest
+  parts-infos h = simp (ne-eqb _ _ h, and-false)
+
   pub parts-tracks : {b : Bool} → b ≡ tracksTest present ts clock → b ≡ false → false ≡ unbrokenParts present ts clock keys infos n
   unfolding unbrokenParts
   parts-tracks e h = simp (← e, h, and-false)

@@ -5,7 +5,7 @@ use borrow.Author.Needs.{needs}
 use mir.Facts.{toZ-ofZ}
 
 proceed-requires : tie.Need-proceed-requires
-proceed-requires c κs = (search needs, search needs)
+proceed-requires c κs = search needs
 
 same-length : tie.Need-same-length
 same-length c = search needs

@@ -29,7 +29,7 @@ abbrev number : ℤ → Natural
 number z = naturalOf z 0 most
 
 unbroken-requires : tie.Need-unbroken-requires
-unbroken-requires c κs = let p = c .before .before .before .pre in (omega (arith, p .0), omega (arith, p .1))
+unbroken-requires c κs = search needs
 
 returns : tie.Need-returns
 returns c = advance-broken (board (c .before .before .before .before .before)) _ _ (sym (c .before .unbroken .ensures) ∙ not-true _ (c .if1 .taken))
@@ -53,7 +53,7 @@ returns-3 c =
     (told number (s .fits .count) (c .before .before .in-range .ensures) (c .enum-told .given .1))
 
 run-requires : tie.Need-run-requires
-run-requires c κs = (c .before .before .before .before .before .before .before .before .before .before .before .pre, (whole (c .before .before .before .before .before .before), c .before .before .before .before .before .if2 .left))
+run-requires c κs = (whole (c .before .before .before .before .before .before), c .before .before .before .before .before .if2 .left)
 
 same-length : tie.Need-same-length
 same-length c = search needs

@@ -23,7 +23,7 @@ playing-requires c κs = search needs
 ticks-holds : tie.Need-ticks-holds Inv-loop μ-loop Inv-ticks μ-ticks
 ticks-holds c =
     let s = c .before .before .before .before in
-    (going-start (board s) (s .args .count .0) (s .args .log .now) (s .pre .1 .0) (s .pre .1 .1) (shape s .tracks), c .playing .ensures, refl, refl)
+    (going-start (board s) (s .args .count .0) (s .args .log .now) (s .pre .0) (s .pre .1) (shape s .tracks), c .playing .ensures, refl, refl)
 
 sub-smaller : tie.Need-sub-smaller Inv-loop μ-loop Inv-ticks μ-ticks
 sub-smaller c = search needs

@@ -76,7 +76,7 @@ array-copy-out-first : tie.Need-array-copy-out-first
 array-copy-out-first c = let l : length (c .before .before .before .args .t1) ≡ trackCount = search (length-mapped, needs) in omega arith
 
 unbroken-requires : tie.Need-unbroken-requires
-unbroken-requires c κs = let s = c .before .before .before .before .pre in (omega (arith, s .0), omega (arith, s .1))
+unbroken-requires c κs = search needs
 
 declined-requires : tie.Need-declined-requires
 declined-requires c κs = search needs

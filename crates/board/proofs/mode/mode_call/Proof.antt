@@ -10,7 +10,7 @@ use native.Mathlib.Omega.{arith}
 use Rattle.board.specs.Points.{trackCount}
 
 judge-requires : tie.Need-judge-requires
-judge-requires c κs = (search needs, search needs)
+judge-requires c κs = search needs
 
 -- there are sixteen tracks
 long : (s : tie.Start) → length (s .args .t1 .tracks) ≡ trackCount

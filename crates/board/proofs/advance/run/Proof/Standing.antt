@@ -52,7 +52,7 @@ abbrev pub board : tie.Start Inv-loop μ-loop Inv-ticks μ-ticks → Board
 board s = boardOf (s .args .given) (s .args .present) (s .args .keys .now) (s .args .infos .now) (s .args .n) (s .args .from .0) (s .args .kept)
 
 pub shape : (s : tie.Start Inv-loop μ-loop Inv-ticks μ-ticks) → Shaped (board s)
-shape s = unbroken-of _ (s .pre .1 .0) .shape
+shape s = unbroken-of _ (s .pre .0) .shape
 
 -- a count of ticks has 32 bits
 pub bits : (s : tie.Start Inv-loop μ-loop Inv-ticks μ-ticks) → s .args .count .0 < 4294967296
