@@ -146,7 +146,7 @@ allWritten nothing = []
 allWritten (then {w = w} {v = v} s t) = written gridstep w v ++ allWritten t
 
 -- the answers and the end of a trace are those of the calls, performed
-trace-is : {cs : List Call} {w u : World Board} {xs : List Reply} → Trace cs w xs u
+pub trace-is : {cs : List Call} {w u : World Board} {xs : List Reply} → Trace cs w xs u
     → performs (perform gridstep) (cutUp cs) w ≡ record { answers = xs; last = u }
 trace-is nothing = refl
 trace-is (then {c = c} {cs = cs} {w = w} {v = v} s t) = rw (step-is c w s, trace-is t)
