@@ -1,5 +1,6 @@
 pub mod Runs
 pub mod Reports
+pub mod Ranges
 pub mod Replayed
 pub mod Taken
 pub mod Executing

@@ -142,6 +142,11 @@ module _ (R : Rules) where
   gathered f [] = []
   gathered f (b ∷ bs) = f b ++ gathered f bs
 
+-- every element of a list
+unfoldable pub Each : {A : Type 0} → (A → Type 0) → List A → Type 0
+Each P [] = Unit {0}
+Each P (x ∷ xs) = P x × Each P xs
+
 -- the records of one kind
 abbrev pub only : {K : Type 0} → (K → Bool) → List K → List K
 only p [] = []

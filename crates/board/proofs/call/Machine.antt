@@ -18,14 +18,12 @@ use Rattle.track.specs.declared.setup.Change.{Change}
 use Rattle.track.specs.Rule.{WAITING, clockEnd, entered}
 use Rattle.track.specs.Grid.{PLAY, PAUSE, RESUME, STOP, gridOf}
 use Rattle.track.proofs.Tests.{cond-cases}
-use Rattle.track.proofs.Arrivals.{entered-valid, entered-passes}
 use Rattle.board.specs.Log.{writeAt, recordWidth, recordBytes, logBytes, capacity}
 use Rattle.board.specs.declared.Board.{Board}
 use Rattle.board.specs.declared.log.Record.{Record}
 use Rattle.board.specs.declared.setup.Outcome.{Outcome}
 use Rattle.board.specs.declared.call.Call.{Call}
 use Rattle.board.specs.declared.call.Call.the-variants as call
-use Rattle.board.specs.Points.{keysOf, infosOf}
 use Rattle.board.specs.Board.{trackAt, isPresent, unbrokenTest, foundIn, Unbroken}
 use Rattle.board.specs.Setup.{boardWith, setUp, addTrack, setPoint, dropPoint, clearBoard}
 use Rattle.board.specs.Tick.{tickOf}
@@ -40,7 +38,7 @@ use Rattle.board.proofs.rules.Broken.{unbroken-of, unbroken-is}
 use Rattle.board.proofs.setup.Ways.{by-natural, set-up-ways, add-track-ways, set-point-ways, drop-point-ways, clear-ways}
 use Rattle.board.proofs.rules.Present.{found-in}
 use Rattle.board.proofs.tick.Commands.{Goes?, grid-goes}
-use Rattle.board.proofs.tick.Steps.{entered-bounded, tick-long, tick-keeps}
+use Rattle.board.proofs.tick.Steps.{entered-bounded, entered-sound, tick-keeps}
 use Rattle.board.proofs.setup.Keeping.{put-track-whole, held-whole, set-up-whole, add-track-whole, set-point-whole, drop-point-whole, clear-whole}
 use Rattle.board.proofs.replay.Cuts.{ticks-on, ticks-off, advance-in, advance-out, Read}
 use Rattle.board.proofs.replay.Replays.{Counts, Room, sets-write}
@@ -280,8 +278,7 @@ module _ (b : Board) (w : Unbroken b) (held : ℕ) where
       let t = trackAt (b .tracks) i in
       let s = w .tracks i h in
       let k = entered-bounded (t .min) (t .max) t (refl, refl) mode in
-      put-track-whole b w i (entered t mode) h
-      (record { valid = entered-valid t (s .valid) mode l; passes = omega (arith, s .passes, entered-passes t mode) }) (k .0) (k .1))
+      put-track-whole b w i (entered t mode) h (entered-sound t (b .clock) s mode l) (k .0) (k .1))
       track code) held
 
   -- nor does a tick below the clock's end

@@ -14,7 +14,7 @@ use Rattle.board.specs.Log.{writeAt}
 use Rattle.board.specs.Cut.{Ran, Did, All, ticks, passed, advance, crossed, Part, run, one, merge, observe, performs}
 use Rattle.board.specs.Replay.{Made, Rules, World, State, flat, wrote, w-halt, w-bar, w-step, perform}
 use Rattle.board.specs.Replay.{puts, takes, r-halt, r-bar, r-step, replay, shown, written, writtens}
-use Rattle.board.specs.Replay.{only, boards, ticked, gathered, total}
+use Rattle.board.specs.Replay.{Each, only, boards, ticked, gathered, total}
 use Rattle.board.proofs.replay.Cuts.{ticks-on, ticks-off, passed-on, passed-off, advance-in, advance-out, crossed-in, crossed-out}
 use Rattle.board.proofs.replay.Cuts.{mapped-did, advance-map, Read, advance-add, cut}
 
@@ -273,6 +273,61 @@ module _ (R : Rules) (K : Counts R) (M : Room R) where
       rows ps t (w .still-fits)
       ∙ rw (e, w .written-is, w .row-is, flat-append R K (s .row) (w .recs))
       (append-assoc (flat R (s .row)) (flat R (w .recs)) (writtens R ps (shown R t)))
+
+-- ---- what every record of the row keeps
+
+-- of one list behind another, those of the one and those of the other
+pub each-append : {A : Type 0} (P : A → Type 0) (xs ys : List A) → Each P xs → Each P ys → Each P (xs ++ ys)
+unfolding Each
+each-append P [] ys p q = q
+each-append P (x ∷ xs) ys p q = (p .0, each-append P xs ys (p .1) q)
+
+-- what follows of every element
+pub each-follows : {A : Type 0} {P Q : A → Type 0} → ((x : A) → P x → Q x) → (xs : List A) → Each P xs → Each Q xs
+unfolding Each
+each-follows f [] p = tt
+each-follows f (x ∷ xs) p = (f x (p .0), each-follows f xs (p .1))
+
+-- `Kept` holds of every board on the way, and so `P` of every record
+module _ (R : Rules) (K : Counts R) (Kept : R .Board → Type 0) (P : R .Rec → Type 0)
+    (tick-kept : (n : ℕ) (b : R .Board) → Kept b → R .halt n b ≡ none
+    → Each P (R .tick b .records) × Kept (R .grown (R .tick b .board) (length (R .tick b .records))))
+    (call-kept : (c : R .Call) (n : ℕ) (b : R .Board) → Kept b
+    → Each P (R .makes c n b .records) × Kept (R .grown (R .makes c n b .board) (length (R .makes c n b .records)))) where
+  open Rules R using (Board, Rec, Call, Stop, grown, tick, makes, done, refuse)
+
+  abbrev pub Keeps : State Board Rec → Type 0
+  Keeps s = Kept (s .board) × Each P (s .row)
+
+  takes-keep : (m : Made Board Rec) (s : State Board Rec) → Each P (s .row)
+      → Each P (m .records) × Kept (grown (m .board) (length (m .records))) → Keeps (takes R m s)
+  takes-keep m s h g = rw (takes-all R K m s) (g .1, each-append P (s .row) (m .records) h (g .0))
+
+  ticks-keep : (n : ℕ) (s : State Board Rec) → Keeps s → Keeps (ticks (r-halt R) (r-step R) n s .end)
+  unfolding ticks
+  ticks-keep zero s h = h
+  ticks-keep (suc n) s h = go (r-halt R s) refl (ticks-keep n (r-step R s))
+    where
+      go : (o : Option Stop) → r-halt R s ≡ o → (Keeps (r-step R s) → Keeps (ticks (r-halt R) (r-step R) n (r-step R s) .end))
+          → Keeps (ticks (r-halt R) (r-step R) (suc n) s .end)
+      go none e ih =
+          rw (ticks-on (r-halt R) (r-step R) n s e)
+          (ih (takes-keep (tick (s .board)) s (h .1) (tick-kept (length (s .log)) (s .board) (h .0) e)))
+      go (some x) e ih = rw (ticks-off (r-halt R) (r-step R) n s x e) h
+
+  part-keeps : (p : Part Call) (s : State Board Rec) → Keeps s → Keeps (replay R p s .left)
+  part-keeps (one c) s h =
+      takes-keep (makes c (length (s .log)) (s .board)) s (h .1) (call-kept c (length (s .log)) (s .board) (h .0))
+  part-keeps (run n) s h = go (r-bar R s) refl
+    where
+      go : (o : Option ℕ) → r-bar R s ≡ o → Keeps (replay R (run n) s .left)
+      go none e = rw (advance-in (r-halt R) (r-step R) (r-bar R) done refuse n s e) (ticks-keep n s h)
+      go (some x) e = rw (advance-out (r-halt R) (r-step R) (r-bar R) done refuse n s x e) h
+
+  -- after every list of calls too
+  pub list-keeps : (ps : List (Part Call)) (s : State Board Rec) → Keeps s → Keeps (performs (replay R) ps s .last)
+  list-keeps [] s h = h
+  list-keeps (p ∷ ps) s h = list-keeps ps (replay R p s .left) (part-keeps p s h)
 
 -- ---- the records of one kind
 
