@@ -1,6 +1,7 @@
 pub mod Runs
 pub mod Reports
 pub mod Ranges
+pub mod Held
 pub mod Replayed
 pub mod Taken
 pub mod Executing

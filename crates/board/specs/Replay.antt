@@ -31,6 +31,8 @@ pub record Rules : Type 1 where
   pub bar : ℕ → Board → Option ℕ
   pub says : Call → ℕ → Board → Answer
   pub makes : Call → ℕ → Board → Made Board Rec
+  -- whether a call is a clear that is accepted
+  pub clears : Call → Board → Bool
   -- the answer to an advance, of its ticks taken and what stopped it, or of the number that refuses it
   pub done : ℕ → Option Stop → Answer
   pub refuse : ℕ → Answer
@@ -47,7 +49,7 @@ pub record State (B K : Type 0) : Type 0 where
   pub row : List K
 
 module _ (R : Rules) where
-  open Rules R using (Board, Rec, Call, Answer, Stop, held, grown, width, bytes, tick, halt, bar, says, makes, done, refuse)
+  open Rules R using (Board, Rec, Call, Answer, Stop, held, grown, width, bytes, tick, halt, bar, says, makes, clears, done, refuse)
 
   -- the bytes of records, one behind the other
   abbrev pub flat : List Rec → List ℕ
@@ -123,6 +125,16 @@ module _ (R : Rules) where
   abbrev pub writtens : List (Part Call) → World Board → List ℕ
   writtens [] w = []
   writtens (p ∷ ps) w = written w (perform p w .left) ++ writtens ps (perform p w .left)
+
+  -- ---- how many records the row had when the last clear was accepted, or n
+
+  abbrev pub clearedBy : Part Call → State Board Rec → ℕ → ℕ
+  clearedBy (run k) s n = n
+  clearedBy (one c) s n = cond (clears c (s .board)) (length (s .row)) n
+
+  abbrev pub clearedAt : List (Part Call) → State Board Rec → ℕ → ℕ
+  clearedAt [] s n = n
+  clearedAt (p ∷ ps) s n = clearedAt ps (replay p s .left) (clearedBy p s n)
 
   -- ---- the ticks that the replay takes
 
