@@ -1,5 +1,8 @@
 pub mod Runs
 pub mod Reports
+pub mod Ranges
+pub mod Held
 pub mod Replayed
+pub mod Taken
 pub mod Executing
 pub mod Cards

@@ -1,6 +1,6 @@
 -- What every call does with a board and a log: the answers by 01's numbers, and the board as a machine of lists of calls.
 use Prim.Native.Nat.{ℕ, _+_}
-use mathlib.Core.Bool.{cond}
+use mathlib.Core.Bool.{Bool, true, false, cond}
 use mathlib.Core.Path.{_≡_}
 use mathlib.Core.List.{List, []}
 use mathlib.Core.Option.{Option, none, some}
@@ -191,6 +191,27 @@ makesOf (call.Track i) n b = untouched b
 makesOf (call.Point i p) n b = untouched b
 makesOf (call.PointCount i from to) n b = untouched b
 
+abbrev pub isAccepted : Answer → Bool
+isAccepted answer.Accepted = true
+isAccepted (answer.Refused n) = false
+
+-- a clear that is accepted
+unfoldable pub clearsOf : Call → Board → Bool
+clearsOf call.Clear b = isAccepted (clearBoard b .answer)
+clearsOf (call.AddTrack i lo hi) b = false
+clearsOf (call.SetUp i c) b = false
+clearsOf (call.SetPoint i p e w c g) b = false
+clearsOf (call.DropPoint i p) b = false
+clearsOf (call.Play i) b = false
+clearsOf (call.Pause i) b = false
+clearsOf (call.Resume i) b = false
+clearsOf (call.Stop i) b = false
+clearsOf (call.Advance k) b = false
+clearsOf call.Clock b = false
+clearsOf (call.Track i) b = false
+clearsOf (call.Point i p) b = false
+clearsOf (call.PointCount i from to) b = false
+
 abbrev pub gridstep : Rules
 gridstep =
     record {
@@ -208,6 +229,7 @@ gridstep =
       bar = barOf;
       says = saysOf;
       makes = makesOf;
+      clears = clearsOf;
       done = stoppedBy;
       refuse = refused;
     }

@@ -6,11 +6,11 @@ use Rattle.board.specs.declared.log.Record.{Record}
 use Rattle.board.specs.declared.call.Call.{Call}
 use Rattle.board.specs.Board.{freshBoard}
 use Rattle.board.specs.Cut.{All, Part, parts, performs}
-use Rattle.board.specs.Replay.{State, replay}
+use Rattle.board.specs.Replay.{State, replay, clearedAt}
 use Rattle.board.specs.Call.{Reply, gridstep, most, countOf, advanceBy}
 use mathlib.Core.Path.{_≡_}
 use lib.IntN.{ℤ}
-use lib.ListN.{length}
+use lib.ListN.{length, drop}
 use Rattle.board.specs.Log.{writeAt}
 use Rattle.board.specs.Row.{callWidth, replyWidth, rowsOf, callsIn, numbersIn, answersTo}
 
@@ -25,6 +25,10 @@ start log = record { board = freshBoard; log = log; row = [] }
 -- the replay of a list: fed the log as it is at the start and the calls, and nothing else
 abbrev pub replayed : List Call → List ℕ → All Reply (State Board Record)
 replayed cs log = performs (replay gridstep) (cutUp cs) (start log)
+
+-- the records that the row has got since the last accepted clear, all of them if there was none
+abbrev pub sinceClear : List Call → List ℕ → List Record
+sinceClear cs log = drop (clearedAt gridstep (cutUp cs) (start log) 0) (replayed cs log .last .row)
 
 -- ---- What an encoded list of calls does (part e of demand 3).
 

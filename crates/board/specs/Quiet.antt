@@ -10,14 +10,11 @@ use Rattle.track.specs.Rule.{Valid, clockEnd}
 use Rattle.track.specs.Walk.{arrival, stops}
 use Rattle.track.specs.Leap.{leap}
 use Rattle.board.specs.Points.{key, hasKey, infoAt}
+use Rattle.board.specs.Replay.{Each}
 use Rattle.board.specs.Board.{trackAt}
 use Rattle.board.specs.Tick.{playBit}
 
--- every number of a list, and one at least
-unfoldable pub Each : (ℕ → Type 0) → List ℕ → Type 0
-Each P [] = Unit {0}
-Each P (i ∷ is) = P i × Each P is
-
+-- one number of a list at least
 unfoldable pub Some : (ℕ → Type 0) → List ℕ → Type 0
 Some P [] = ⊥
 Some P (i ∷ is) = P i ⊎ Some P is

@@ -31,6 +31,8 @@ pub record Rules : Type 1 where
   pub bar : ℕ → Board → Option ℕ
   pub says : Call → ℕ → Board → Answer
   pub makes : Call → ℕ → Board → Made Board Rec
+  -- whether a call is a clear that is accepted
+  pub clears : Call → Board → Bool
   -- the answer to an advance, of its ticks taken and what stopped it, or of the number that refuses it
   pub done : ℕ → Option Stop → Answer
   pub refuse : ℕ → Answer
@@ -47,7 +49,7 @@ pub record State (B K : Type 0) : Type 0 where
   pub row : List K
 
 module _ (R : Rules) where
-  open Rules R using (Board, Rec, Call, Answer, Stop, held, grown, width, bytes, tick, halt, bar, says, makes, done, refuse)
+  open Rules R using (Board, Rec, Call, Answer, Stop, held, grown, width, bytes, tick, halt, bar, says, makes, clears, done, refuse)
 
   -- the bytes of records, one behind the other
   abbrev pub flat : List Rec → List ℕ
@@ -124,6 +126,16 @@ module _ (R : Rules) where
   writtens [] w = []
   writtens (p ∷ ps) w = written w (perform p w .left) ++ writtens ps (perform p w .left)
 
+  -- ---- how many records the row had when the last clear was accepted, or n
+
+  abbrev pub clearedBy : Part Call → State Board Rec → ℕ → ℕ
+  clearedBy (run k) s n = n
+  clearedBy (one c) s n = cond (clears c (s .board)) (length (s .row)) n
+
+  abbrev pub clearedAt : List (Part Call) → State Board Rec → ℕ → ℕ
+  clearedAt [] s n = n
+  clearedAt (p ∷ ps) s n = clearedAt ps (replay p s .left) (clearedBy p s n)
+
   -- ---- the ticks that the replay takes
 
   abbrev pub boards : List (State Board Rec) → List Board
@@ -141,6 +153,11 @@ module _ (R : Rules) where
   abbrev pub gathered : (Board → List Rec) → List Board → List Rec
   gathered f [] = []
   gathered f (b ∷ bs) = f b ++ gathered f bs
+
+-- every element of a list
+unfoldable pub Each : {A : Type 0} → (A → Type 0) → List A → Type 0
+Each P [] = Unit {0}
+Each P (x ∷ xs) = P x × Each P xs
 
 -- the records of one kind
 abbrev pub only : {K : Type 0} → (K → Bool) → List K → List K

@@ -48,6 +48,11 @@ abbrev pub recordLines : ℕ → List ℕ → List ℕ
 recordLines zero log = []
 recordLines (suc n) log = unpackedLine (unpackOf (take recordWidth log)) ++ recordLines n (drop recordWidth log)
 
+-- records, one line each
+abbrev pub lineEach : List Record → List ℕ
+lineEach [] = []
+lineEach (r ∷ rs) = recordLine r ++ lineEach rs
+
 -- what is printed of a line's answer: reasons are 1 LogFull, 2 ClockEnd
 abbrev pub noteOf : ℕ → Reply → List ℕ
 noteOf line accepted = []

@@ -27,7 +27,8 @@ use Rattle.board.specs.Log.{writeAt, recordWidth, logBytes, capacity}
 use Rattle.board.specs.Board.{unbrokenParts, unbrokenTest, pointsTest, tracksTest, shapeTest, trackAt}
 use Rattle.board.specs.Points.{pointMost, keysOf, infosOf, trackCount}
 use Rattle.board.specs.Tick.{Stage, staged, tickFrom, playingWord, members}
-use Rattle.board.specs.Quiet.{Each, Calm, Leapable, leapTracks, leapInto}
+use Rattle.board.specs.Replay.{Each}
+use Rattle.board.specs.Quiet.{Calm, Leapable, leapTracks, leapInto}
 use Rattle.board.specs.Cut.{Ran, Did, ticks, counted, sorted}
 use Rattle.board.specs.Replay.{World, w-halt, w-step, w-bar, perform}
 use Rattle.board.specs.Call.{Reply, refused, Stop, ends, fills, gridstep, haltOf, barOf, barred, saysOf, makesOf, most, taken?, countOf, advanceBy, does, Gives, world, stoppedBy, advancedSaid}

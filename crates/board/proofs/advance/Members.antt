@@ -17,7 +17,8 @@ use Rattle.board.specs.Points.{ascendingFrom, key, keysOf, infosOf, wait
 use Rattle.board.specs.Board.{noTrack, trackAt, isPresent, pointsTest}
 use Rattle.board.specs.Tick.{Stage, staged, stepRecords, reachedBy, foundBy, stepMember, stepAll, runAll, tickFrom, playingWord, InfoRule, TracksRule, tickMost}
 use Rattle.board.specs.Tick.{members}
-use Rattle.board.specs.Quiet.{Each, Able, Leapable}
+use Rattle.board.specs.Replay.{Each}
+use Rattle.board.specs.Quiet.{Able, Leapable}
 use Rattle.board.proofs.points.Keys.{ascending-head, ascending-rest}
 use Rattle.board.proofs.points.Rows.{ascending-weaken}
 use Rattle.board.proofs.tick.Staging.{length-log, log-append, step-most, reached-most}

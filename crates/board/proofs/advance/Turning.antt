@@ -20,7 +20,8 @@ use Rattle.board.specs.Points.{ascendingFrom, keysOf, infosOf, waits, co
 use Rattle.board.specs.Board.{noTrack, trackAt, isPresent, pointsTest}
 use Rattle.board.specs.Tick.{Stage, staged, stirring, stepRecords, reachedBy, foundBy, runCommand, runAll, tickFrom, playBit, playingWord, TracksRule, tickMost}
 use Rattle.board.specs.Tick.{members}
-use Rattle.board.specs.Quiet.{Each, Able, Leapable, leapInto, leapTracks}
+use Rattle.board.specs.Replay.{Each}
+use Rattle.board.specs.Quiet.{Able, Leapable, leapInto, leapTracks}
 use Rattle.board.proofs.points.Keys.{ascending-head, ascending-rest}
 use Rattle.board.proofs.points.Rows.{ascending-weaken}
 use Rattle.board.proofs.tick.Bits.{Lowest, cleared}

@@ -3,7 +3,6 @@ use Prim.Native.Nat.{ℕ, zero, suc, _+_, _*_, _≤_, _<_}
 use mathlib.Core.Path.{_≡_, refl, sym, _∙_, ap, subst}
 use mathlib.Core.Bool.{Bool, true, false, cond}
 use mathlib.Core.List.{List, [], _∷_, _++_}
-use mathlib.Core.Logic.{_⊎_, inl, inr}
 use mathlib.Core.Option.{Option, none, some, Option·none-ne-some}
 use native.Mathlib.Nat.{add-zero, add-assoc, mul-comm}
 use native.Mathlib.Omega.{arith}
@@ -18,14 +17,12 @@ use Rattle.track.specs.declared.setup.Change.{Change}
 use Rattle.track.specs.Rule.{WAITING, clockEnd, entered}
 use Rattle.track.specs.Grid.{PLAY, PAUSE, RESUME, STOP, gridOf}
 use Rattle.track.proofs.Tests.{cond-cases}
-use Rattle.track.proofs.Arrivals.{entered-valid, entered-passes}
 use Rattle.board.specs.Log.{writeAt, recordWidth, recordBytes, logBytes, capacity}
 use Rattle.board.specs.declared.Board.{Board}
 use Rattle.board.specs.declared.log.Record.{Record}
 use Rattle.board.specs.declared.setup.Outcome.{Outcome}
 use Rattle.board.specs.declared.call.Call.{Call}
 use Rattle.board.specs.declared.call.Call.the-variants as call
-use Rattle.board.specs.Points.{keysOf, infosOf}
 use Rattle.board.specs.Board.{trackAt, isPresent, unbrokenTest, foundIn, Unbroken}
 use Rattle.board.specs.Setup.{boardWith, setUp, addTrack, setPoint, dropPoint, clearBoard}
 use Rattle.board.specs.Tick.{tickOf}
@@ -33,17 +30,17 @@ use Rattle.board.specs.Mode.{Ruling, declined, callRecords, changing, ch
 use Rattle.board.specs.Cut.{ticks, Part, run, one}
 use Rattle.board.specs.Replay.{Made, World, flat, wrote, w-halt, w-bar, w-step, perform}
 use Rattle.board.specs.Call.{refused, answered, Stop, ends, fills, stoppedBy, Reason, stopped, refusedWith, takenIn, whyNot, ticked, grownBy}
-use Rattle.board.specs.Call.{haltOf, barOf, madeOf, madeBy, saysOf, makesOf, gridstep, countOf, does, world, Gives}
+use Rattle.board.specs.Call.{haltOf, barOf, madeOf, madeBy, saysOf, makesOf, isAccepted, clearsOf, gridstep, countOf, does, world, Gives}
 use Rattle.board.proofs.log.Records.{length-record}
 use Rattle.board.proofs.tick.Staging.{length-log, write-none}
 use Rattle.board.proofs.rules.Broken.{unbroken-of, unbroken-is}
 use Rattle.board.proofs.setup.Ways.{by-natural, set-up-ways, add-track-ways, set-point-ways, drop-point-ways, clear-ways}
 use Rattle.board.proofs.rules.Present.{found-in}
 use Rattle.board.proofs.tick.Commands.{Goes?, grid-goes}
-use Rattle.board.proofs.tick.Steps.{entered-bounded, tick-long, tick-keeps}
+use Rattle.board.proofs.tick.Steps.{entered-bounded, entered-sound, tick-keeps}
 use Rattle.board.proofs.setup.Keeping.{put-track-whole, held-whole, set-up-whole, add-track-whole, set-point-whole, drop-point-whole, clear-whole}
 use Rattle.board.proofs.replay.Cuts.{ticks-on, ticks-off, advance-in, advance-out, Read}
-use Rattle.board.proofs.replay.Replays.{Counts, Room, sets-write}
+use Rattle.board.proofs.replay.Replays.{Counts, Leaves, Room, sets-write}
 
 -- the bytes of records, as the theory of lists has them
 pub flat-is : (rs : List Record) → flat gridstep rs ≡ logBytes rs
@@ -159,28 +156,29 @@ kept n b g h =
 -- ---- what a call leaves of the held records
 
 module _ (b : Board) where
-  -- no call but a mode call makes more of them
-  abbrev Low : Outcome → Type 0
-  Low o = o .board .held ≤ b .held
+  -- a set-up call leaves them
+  abbrev Same : Outcome → Type 0
+  Same o = o .board .held ≡ b .held
 
-  set-up-low : (track : ℤ) (c : Change) → Low (setUp b track c)
-  set-up-low track c = set-up-ways b Low (λ k. omega arith) track c (λ i _. omega arith)
+  set-up-held : (track : ℤ) (c : Change) → Same (setUp b track c)
+  set-up-held track c = set-up-ways b Same (λ k. refl) track c (λ i _. refl)
 
-  add-track-low : (number min max : ℤ) → Low (addTrack b number min max)
-  add-track-low number min max = add-track-ways b Low (λ k. omega arith) number min max (λ i low high _ _ _ _. omega arith)
+  add-track-held : (number min max : ℤ) → Same (addTrack b number min max)
+  add-track-held number min max = add-track-ways b Same (λ k. refl) number min max (λ i low high _ _ _ _. refl)
 
-  set-point-low : (track position event wait command target : ℤ) → Low (setPoint b track position event wait command target)
-  set-point-low track position event wait command target =
-      set-point-ways b Low (λ k. omega arith) track position event wait command target (λ p _ _. omega arith)
+  set-point-held : (track position event wait command target : ℤ) → Same (setPoint b track position event wait command target)
+  set-point-held track position event wait command target =
+      set-point-ways b Same (λ k. refl) track position event wait command target (λ p _ _. refl)
 
-  drop-point-low : (track position : ℤ) → Low (dropPoint b track position)
-  drop-point-low track position = drop-point-ways b Low (λ k. omega arith) track position (λ k _. omega arith)
-
-  clear-low : Low (clearBoard b)
-  clear-low = clear-ways b Low (λ k. omega arith) (omega arith)
+  drop-point-held : (track position : ℤ) → Same (dropPoint b track position)
+  drop-point-held track position = drop-point-ways b Same (λ k. refl) track position (λ k _. refl)
 
   mode-held : (n : ℕ) (track : ℤ) (code : ℕ) → modeRuling b n track code .board .held ≡ b .held
   mode-held n = ruling-ways b n (λ (m : Ruling). m .board .held ≡ b .held) (λ k. refl) (λ i mode _ _ _. refl)
+
+  -- a clear that is accepted lets them go
+  clear-held : Leaves gridstep (isAccepted (clearBoard b .answer)) b (madeOf (clearBoard b))
+  clear-held = clear-ways b (λ (o : Outcome). Leaves gridstep (isAccepted (o .answer)) b (madeOf o)) (λ k. refl) (refl, refl)
 
   mode-fits : (n : ℕ) → recordWidth * b .held ≤ n → (track : ℤ) (code : ℕ) →
       let m = modeRuling b n track code in
@@ -188,51 +186,47 @@ module _ (b : Board) where
   mode-fits n h =
       ruling-ways b n (λ (m : Ruling). recordWidth * (m .board .held + length (m .records)) ≤ n) (λ k. omega arith) (λ i mode _ _ fits. omega arith)
 
--- what a call makes: it writes no record and makes no more held ones, or leaves the held ones
-abbrev Holds : Board → Made Board Record → Type 0
-Holds b m = ((m .records ≡ []) × (m .board .held ≤ b .held)) ⊎ (m .board .held ≡ b .held)
-
-call-held : (c : Call) (n : ℕ) (b : Board) → Holds b (makesOf c n b)
-unfolding makesOf
-call-held (call.AddTrack i lo hi) n b = inl (refl, add-track-low b i lo hi)
-call-held (call.SetUp i c) n b = inl (refl, set-up-low b i c)
-call-held (call.SetPoint i p e w c g) n b = inl (refl, set-point-low b i p e w c g)
-call-held (call.DropPoint i p) n b = inl (refl, drop-point-low b i p)
-call-held (call.Play i) n b = inr (mode-held b n i PLAY)
-call-held (call.Pause i) n b = inr (mode-held b n i PAUSE)
-call-held (call.Resume i) n b = inr (mode-held b n i RESUME)
-call-held (call.Stop i) n b = inr (mode-held b n i STOP)
-call-held (call.Advance k) n b = inr refl
-call-held call.Clear n b = inl (refl, clear-low b)
-call-held call.Clock n b = inr refl
-call-held (call.Track i) n b = inr refl
-call-held (call.Point i p) n b = inr refl
-call-held (call.PointCount i from to) n b = inr refl
+call-held : (c : Call) (n : ℕ) (b : Board) → Leaves gridstep (clearsOf c b) b (makesOf c n b)
+unfolding makesOf clearsOf
+call-held (call.AddTrack i lo hi) n b = add-track-held b i lo hi
+call-held (call.SetUp i c) n b = set-up-held b i c
+call-held (call.SetPoint i p e w c g) n b = set-point-held b i p e w c g
+call-held (call.DropPoint i p) n b = drop-point-held b i p
+call-held (call.Play i) n b = mode-held b n i PLAY
+call-held (call.Pause i) n b = mode-held b n i PAUSE
+call-held (call.Resume i) n b = mode-held b n i RESUME
+call-held (call.Stop i) n b = mode-held b n i STOP
+call-held (call.Advance k) n b = refl
+call-held call.Clear n b = clear-held b
+call-held call.Clock n b = refl
+call-held (call.Track i) n b = refl
+call-held (call.Point i p) n b = refl
+call-held (call.PointCount i from to) n b = refl
 
 abbrev FitsIn : ℕ → Made Board Record → Type 0
 FitsIn n m = recordWidth * (m .board .held + length (m .records)) ≤ n
 
-low-fits : (b : Board) (n : ℕ) (o : Outcome) → Low b o → recordWidth * b .held ≤ n → FitsIn n (madeOf o)
-low-fits b n o l h = omega arith
+same-fits : (b : Board) (n : ℕ) (o : Outcome) → Same b o → recordWidth * b .held ≤ n → FitsIn n (madeOf o)
+same-fits b n o e h = omega arith
 
 call-fits : (c : Call) (n : ℕ) (b : Board) → recordWidth * b .held ≤ n → FitsIn n (makesOf c n b)
 unfolding makesOf
-call-fits (call.AddTrack i lo hi) n b h = low-fits b n (addTrack b i lo hi) (add-track-low b i lo hi) h
-call-fits (call.SetUp i c) n b h = low-fits b n (setUp b i c) (set-up-low b i c) h
-call-fits (call.SetPoint i p e w c g) n b h = low-fits b n (setPoint b i p e w c g) (set-point-low b i p e w c g) h
-call-fits (call.DropPoint i p) n b h = low-fits b n (dropPoint b i p) (drop-point-low b i p) h
+call-fits (call.AddTrack i lo hi) n b h = same-fits b n (addTrack b i lo hi) (add-track-held b i lo hi) h
+call-fits (call.SetUp i c) n b h = same-fits b n (setUp b i c) (set-up-held b i c) h
+call-fits (call.SetPoint i p e w c g) n b h = same-fits b n (setPoint b i p e w c g) (set-point-held b i p e w c g) h
+call-fits (call.DropPoint i p) n b h = same-fits b n (dropPoint b i p) (drop-point-held b i p) h
 call-fits (call.Play i) n b h = mode-fits b n h i PLAY
 call-fits (call.Pause i) n b h = mode-fits b n h i PAUSE
 call-fits (call.Resume i) n b h = mode-fits b n h i RESUME
 call-fits (call.Stop i) n b h = mode-fits b n h i STOP
 call-fits (call.Advance k) n b h = omega arith
-call-fits call.Clear n b h = low-fits b n (clearBoard b) (clear-low b) h
+call-fits call.Clear n b h = clear-ways b (λ (o : Outcome). FitsIn n (madeOf o)) (λ k. omega arith) (omega arith)
 call-fits call.Clock n b h = omega arith
 call-fits (call.Track i) n b h = omega arith
 call-fits (call.Point i p) n b h = omega arith
 call-fits (call.PointCount i from to) n b h = omega arith
 
--- records are written only where they fit, and a call that lets held ones go writes none
+-- records are written only where they fit, and a call leaves the held ones or lets them go
 pub room : Room gridstep
 room = record {
   tick-held = λ b. refl;
@@ -280,8 +274,7 @@ module _ (b : Board) (w : Unbroken b) (held : ℕ) where
       let t = trackAt (b .tracks) i in
       let s = w .tracks i h in
       let k = entered-bounded (t .min) (t .max) t (refl, refl) mode in
-      put-track-whole b w i (entered t mode) h
-      (record { valid = entered-valid t (s .valid) mode l; passes = omega (arith, s .passes, entered-passes t mode) }) (k .0) (k .1))
+      put-track-whole b w i (entered t mode) h (entered-sound t (b .clock) s mode l) (k .0) (k .1))
       track code) held
 
   -- nor does a tick below the clock's end

@@ -27,16 +27,17 @@ use Rattle.board.specs.Setup.{setUp, addTrack, setPoint, dropPoint, clea
 use Rattle.board.specs.Query.{clockOf, trackOf, pointIn, countIn}
 use Rattle.board.specs.Mode.{modeRuling}
 use Rattle.board.specs.Cut.{Ran, ticks, Did, All, run, sorted, part, performs, Recut, observe}
-use Rattle.board.specs.Replay.{World, State, perform, wrote, w-bar, w-halt, w-step, replay, r-bar, r-halt, r-step, written, writtens, flat}
+use Rattle.board.specs.Replay.{World, State, perform, w-bar, w-halt, w-step, replay, r-bar, r-halt, r-step, written, writtens, flat}
 use Rattle.board.specs.Replay.{shown, only, gathered, ticked, total}
 use Rattle.board.specs.Call.{Reply, refused, answered, clockSaid, trackSaid, pointSaid, countSaid, advancedSaid, Stop, ends, fills, stoppedBy}
-use Rattle.board.specs.Call.{takenIn, whyNot, untouched, barOf, barred, saysOf, makesOf, gridstep, most, countOf, advanceBy, does}
+use Rattle.board.specs.Call.{takenIn, whyNot, barOf, barred, saysOf, makesOf, gridstep, most, countOf, advanceBy, does}
 use Rattle.board.specs.Call.{world, Gives}
 use Rattle.board.specs.Lists.{cutUp, start, replayed}
 use Rattle.board.specs.Arrivals.{arrivalsIn, noteOf, notesIn, isPoint}
 use Rattle.board.proofs.replay.Cuts.{recut, cut, advance-add, advance-in, advance-out}
 use Rattle.board.proofs.replay.Replays.{shown-takes, w-kept, agrees, rows, kinds, cuts, gathered-length, total-same}
 use Rattle.board.proofs.call.Machine.{counts, room, kept, read, call-whole}
+use Rattle.board.proofs.call.Refusals.{silent}
 use Rattle.board.proofs.lists.Reports.{tick-points, call-points}
 use Rattle.board.proofs.apply.Applying.{add-track-gives, set-up-gives, set-point-gives, drop-point-gives, clear-gives}
 use Rattle.board.proofs.apply.Applying.{clock-gives, track-gives, point-gives, point-count-gives}
@@ -107,10 +108,6 @@ Step (call.PointCount i from to) w a v =
 abbrev did : Reply → World Board → Did Reply (World Board)
 did a v = record { answer = a; left = v }
 
--- a call that writes no record leaves the log
-silent : (b : Board) (w : World Board) → wrote gridstep (untouched b) w ≡ world b (w .log)
-silent b w = ap (λ (c : Board). world c (w .log)) (counts .grown-zero b)
-
 -- what a call gives is what it does
 gives-is : {d : Did Reply (World Board)} {a a′ : Reply} {b : Board} {l : List ℕ} {v : World Board} → Gives d a′ b l → a ≡ a′ → v ≡ world b l
     → d ≡ did a v
@@ -149,7 +146,7 @@ allWritten nothing = []
 allWritten (then {w = w} {v = v} s t) = written gridstep w v ++ allWritten t
 
 -- the answers and the end of a trace are those of the calls, performed
-trace-is : {cs : List Call} {w u : World Board} {xs : List Reply} → Trace cs w xs u
+pub trace-is : {cs : List Call} {w u : World Board} {xs : List Reply} → Trace cs w xs u
     → performs (perform gridstep) (cutUp cs) w ≡ record { answers = xs; last = u }
 trace-is nothing = refl
 trace-is (then {c = c} {cs = cs} {w = w} {v = v} s t) = rw (step-is c w s, trace-is t)

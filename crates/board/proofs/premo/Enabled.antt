@@ -1,96 +1,35 @@
--- What a refused call leaves, and the mode calls that act or are refused.
+-- The mode calls on a present track that act, and those that are refused.
 use Prim.Native.Nat.{ℕ, _+_, zero-le}
 use mathlib.Core.Path.{_≡_, refl, sym, _∙_, ap}
 use mathlib.Core.Bool.{true}
-use mathlib.Core.Option.{Option, none, some}
 use native.Mathlib.Omega.{arith}
 use lib.Dec.{eqb, leb}
-use lib.IntN.{ℤ, pos}
+use lib.IntN.{pos}
 use lib.ListN.{length}
 use lib.Seq.{getD-set-same}
 use borrow.Author.Tests.{eqb-true, eq-eqb, le-leb}
 use Rattle.track.specs.declared.Track.{Track}
 use Rattle.track.specs.declared.grid.Decision.the-variants as decision
 use Rattle.track.specs.declared.number.Natural.the-variants as natural
-use Rattle.track.specs.declared.setup.Answer.{Answer}
-use Rattle.track.specs.declared.setup.Answer.the-variants as answer
 use Rattle.track.specs.Rule.{STOPPED, PLAYING, WAITING, stopped, entered}
-use Rattle.track.specs.Grid.{PLAY, PAUSE, RESUME, STOP, gridOf}
+use Rattle.track.specs.Grid.{PLAY, RESUME, STOP, gridOf}
 use Rattle.track.specs.Number.{naturalOf}
 use Rattle.track.proofs.Tests.{cond-cases, cond-yes, cond-no}
 use Rattle.track.proofs.Numbers.{natural-of}
 use Rattle.board.specs.declared.Board.{Board}
-use Rattle.board.specs.declared.setup.Outcome.{Outcome}
 use Rattle.board.specs.Board.{trackAt, noTrack, isPresent, foundIn, Unbroken}
-use Rattle.board.specs.Setup.{setUp, addTrack, setPoint, dropPoint, clearBoard}
 use Rattle.board.proofs.rules.Broken.{present-small, unbroken-is}
-use Rattle.board.proofs.setup.Ways.{set-up-refused, add-track-refused, set-point-refused, drop-point-refused, clear-refused}
 use Rattle.board.specs.Mode.{Ruling, callRecords, changing, changesTo, decided, modeRuling}
 use Rattle.board.specs.Log.{capacity}
 use Rattle.board.specs.declared.call.Call.{Call}
 use Rattle.board.specs.declared.call.Call.the-variants as call
-use Rattle.board.specs.Cut.{ticks, Part, run, one}
-use Rattle.board.specs.Replay.{World, wrote, w-halt, w-bar, w-step, perform}
-use Rattle.board.proofs.replay.Cuts.{advance-in, advance-out}
-use Rattle.board.specs.Call.{refused, answered, Stop, ends, fills, stoppedBy, untouched, madeOf, madeBy, saysOf, makesOf, gridstep, countOf, does, world}
-use Rattle.board.proofs.call.Machine.{counts}
+use Rattle.board.specs.Replay.{World, wrote}
+use Rattle.board.specs.Call.{refused, answered, madeBy, saysOf, makesOf, gridstep, countOf, does}
 use Rattle.board.specs.premo.Automaton.{doRESUME, doSTOP, exc, offers}
 use Rattle.board.specs.premo.Acts.{modeOf, isNumber, isOn, deedOf, isRefusal, callActs, Brings}
 use Rattle.board.specs.premo.Published.{raises, Fits}
+use Rattle.board.proofs.call.Refusals.{silent}
 use Rattle.board.proofs.premo.Calls.{ruling-cases, present-mode}
-
--- ---- a refused call leaves board and log equal
-
-idle : (w : World Board) (b : Board) → b ≡ w .board → wrote gridstep (untouched b) w ≡ w
-idle w b e = ap (λ (c : Board). world c (w .log)) (counts .grown-zero b ∙ e)
-
-answered-refused : (a : Answer) {k : ℕ} → answered a ≡ refused k → a ≡ answer.Refused k
-answered-refused answer.Accepted e = cc
-answered-refused (answer.Refused n) e = cc
-
-outcome-idle : (w : World Board) (o : Outcome) (k : ℕ) → (o .answer ≡ answer.Refused k → o .board ≡ w .board)
-    → answered (o .answer) ≡ refused k → wrote gridstep (madeOf o) w ≡ w
-outcome-idle w o k f e = idle w (o .board) (f (answered-refused (o .answer) e))
-
-mode-idle : (w : World Board) (track : ℤ) (c k : ℕ) →
-    let m = modeRuling (w .board) (length (w .log)) track c in
-    answered (m .answer) ≡ refused k → wrote gridstep (madeBy m) w ≡ w
-mode-idle w track c k =
-    ruling-cases (w .board) (length (w .log)) track c (λ (m : Ruling). answered (m .answer) ≡ refused k → wrote gridstep (madeBy m) w ≡ w)
-    (λ _ _. idle w (w .board) refl) (λ j mode _ _ _ e. cc)
-
-call-idle : (c : Call) (w : World Board) (k : ℕ) → saysOf c (length (w .log)) (w .board) ≡ refused k
-    → wrote gridstep (makesOf c (length (w .log)) (w .board)) w ≡ w
-unfolding saysOf makesOf
-call-idle (call.AddTrack i lo hi) w k = outcome-idle w (addTrack (w .board) i lo hi) k (add-track-refused (w .board) i lo hi)
-call-idle (call.SetUp i c) w k = outcome-idle w (setUp (w .board) i c) k (set-up-refused (w .board) i c)
-call-idle (call.SetPoint i p e f c g) w k = outcome-idle w (setPoint (w .board) i p e f c g) k (set-point-refused (w .board) i p e f c g)
-call-idle (call.DropPoint i p) w k = outcome-idle w (dropPoint (w .board) i p) k (drop-point-refused (w .board) i p)
-call-idle (call.Play i) w k = mode-idle w i PLAY k
-call-idle (call.Pause i) w k = mode-idle w i PAUSE k
-call-idle (call.Resume i) w k = mode-idle w i RESUME k
-call-idle (call.Stop i) w k = mode-idle w i STOP k
-call-idle (call.Advance n) w k = λ e. idle w (w .board) refl
-call-idle call.Clear w k = outcome-idle w (clearBoard (w .board)) k (clear-refused (w .board))
-call-idle call.Clock w k = λ e. idle w (w .board) refl
-call-idle (call.Track i) w k = λ e. idle w (w .board) refl
-call-idle (call.Point i p) w k = λ e. idle w (w .board) refl
-call-idle (call.PointCount i from to) w k = λ e. idle w (w .board) refl
-
-never-refused : (t : ℕ) (o : Option Stop) {k : ℕ} → stoppedBy t o ≡ refused k → ⊥
-never-refused t none e = let z : _≡_ {A = ℕ} 0 1 = cc in omega arith
-never-refused t (some ends) e = let z : _≡_ {A = ℕ} 0 1 = cc in omega arith
-never-refused t (some fills) e = let z : _≡_ {A = ℕ} 0 1 = cc in omega arith
-
-pub refused-same : (p : Part Call) (w : World Board) (k : ℕ) → perform gridstep p w .answer ≡ refused k → perform gridstep p w .left ≡ w
-refused-same (one c) w k = call-idle c w k
-refused-same (run n) w k = go (w-bar gridstep w) refl
-  where
-    go : (o : Option ℕ) → w-bar gridstep w ≡ o → perform gridstep (run n) w .answer ≡ refused k → perform gridstep (run n) w .left ≡ w
-    go none e h =
-        let t = ticks (w-halt gridstep) (w-step gridstep) n w in
-        absurd (never-refused (t .taken) (t .why) (rw (advance-in (w-halt gridstep) (w-step gridstep) (w-bar gridstep) stoppedBy refused n w e) at h))
-    go (some x) e h = rw (advance-out (w-halt gridstep) (w-step gridstep) (w-bar gridstep) stoppedBy refused n w x e)
 
 -- ---- mode calls on a present track
 
@@ -140,7 +79,7 @@ module _ (w : World Board) (whole : Unbroken (w .board)) (i : ℕ) (present : is
       → (isRefusal (answered (ruling c .answer)) ≡ true) × (wrote gridstep (madeBy (ruling c)) w ≡ w)
   refuses c g =
       ruling-cases b n (pos i) c (λ (m : Ruling). (isRefusal (answered (m .answer)) ≡ true) × (wrote gridstep (madeBy m) w ≡ w))
-      (λ _. (refl, idle w b refl)) (λ j mode e _ h. absurd (let z : _≡_ {A = ℕ} 0 1 = cc number in omega arith))
+      (λ _. (refl, silent b w)) (λ j mode e _ h. absurd (let z : _≡_ {A = ℕ} 0 1 = cc number in omega arith))
 
   -- in every mode a mode call is refused, and leaves all equal
   pub raised : Brings i (raises i (modeOf b i)) exc w × (does (raises i (modeOf b i)) w .left ≡ w)

@@ -15,10 +15,10 @@ use Rattle.board.proofs.rules.Broken.{present-set}
 use Rattle.board.proofs.setup.Keeping.{fresh-whole}
 use Rattle.board.specs.declared.call.Call.{Call}
 use Rattle.board.specs.declared.call.Call.the-variants as call
-use Rattle.board.specs.Cut.{All, Part, part, performs, passed, crossed}
+use Rattle.board.specs.Cut.{All, Part, performs, passed, crossed}
 use Rattle.board.specs.Replay.{World, perform}
 use Rattle.board.proofs.replay.Replays.{agrees}
-use Rattle.board.specs.Call.{Reply, refused, gridstep, most, countOf, advanceBy, does, world}
+use Rattle.board.specs.Call.{Reply, refused, gridstep, does, world}
 use Rattle.board.proofs.call.Machine.{counts, call-whole}
 use Rattle.board.specs.Lists.{cutUp, start}
 use Rattle.board.specs.Arrivals.{arrivalAt, arrivalsOf}
@@ -29,7 +29,8 @@ use Rattle.board.specs.premo.Acts.{modeOf, stepActs, actOf, obeyActs, co
 use Rattle.board.specs.premo.Published.{Fits, Published, OfEveryList, Counterexample, AllOccur}
 use Rattle.board.proofs.premo.Paths.{path-ends, path-resume-first, path-resume-again, path-paused, path-jump}
 use Rattle.board.proofs.premo.Calls.{list-path}
-use Rattle.board.proofs.premo.Enabled.{refused-same, raised, resumes, stops}
+use Rattle.board.proofs.call.Refusals.{refused-equal}
+use Rattle.board.proofs.premo.Enabled.{raised, resumes, stops}
 
 list-whole : (ps : List (Part Call)) (w : World Board) → Unbroken (w .board) → Unbroken (performs (perform gridstep) ps w .last .board)
 list-whole [] w h = h
@@ -66,7 +67,7 @@ published i cs log =
     record {
       modes = path;
       exceptions = raised w whole i;
-      refusals = λ c. refused-same (part most countOf advanceBy c) w;
+      refusals = λ c. refused-equal c w;
       resume-first = path-resume-first _ trace path;
       resume-again = path-resume-again _ _ trace path;
       resume-offered = λ xs a e h. path-paused STOPPED (modeOf (w .board) i) xs a h (rw e at path);

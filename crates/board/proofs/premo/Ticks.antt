@@ -1,10 +1,9 @@
 -- The acts of a track in a tick are a path of the automaton.
-use Prim.Native.Nat.{ℕ, suc, _+_, _/_, _%_, _^_, _≤_, _<_, suc-le-suc}
+use Prim.Native.Nat.{ℕ, suc, _+_, _≤_, _<_}
 use mathlib.Core.Path.{_≡_, refl, sym, _∙_, ap, subst}
 use mathlib.Core.Bool.{Bool, true, false, cond, _&&_, _||_, true≢false, false≢true}
 use mathlib.Core.Logic.{⊎-elim}
 use mathlib.Core.List.{List, [], _∷_, _++_, map, map-append}
-use native.Mathlib.Nat.{add-zero, zero-add, add-suc, suc-add, div-one, zero-lt-suc}
 use native.Mathlib.Omega.{arith}
 use lib.Dec.{eqb, leb}
 use lib.ListN.{length, set, length-set}
@@ -21,12 +20,12 @@ use Rattle.board.specs.Points.{ascendingFrom, key, keysOf, infosOf, info
 use Rattle.board.proofs.points.Keys.{same-or-not, ascending-head, ascending-rest}
 use Rattle.board.specs.declared.Board.{Board}
 use Rattle.board.specs.Board.{trackAt, noTrack, isPresent, Unbroken}
-use Rattle.board.proofs.rules.Broken.{present-small, present-bit, half-bit, unbroken-is}
+use Rattle.board.proofs.rules.Broken.{present-small, unbroken-is}
 use Rattle.board.specs.Tick.{members}
-use Rattle.board.specs.Quiet.{Each}
+use Rattle.board.specs.Replay.{Each}
 use Rattle.board.specs.Tick.{Stage, staged, reachedBy, playingWord, foundBy, stepMember, stepAll, commanded, obeyed, runAll, tickFrom, tickOf}
 use Rattle.board.proofs.tick.Commands.{obeyedIn, tracksRun, run-apart, tracks-first}
-use Rattle.board.proofs.quiet.Players.{EachPlaying, each-member, bit-plays}
+use Rattle.board.proofs.quiet.Players.{members-present}
 use Rattle.board.proofs.tick.Steps.{members-ascend, foundAt, steppedIn, writtenBy, stepsFrom, steps-apart, steps-below, steps-long, found-target}
 use Rattle.board.specs.Call.{ticked}
 use Rattle.board.proofs.advance.Advancing.{whole-points}
@@ -105,27 +104,12 @@ each-has P i (k ∷ is) p h = go (eqb k i) refl h (each-has P i is (p .1))
     go true e h ih = subst P (eqb-true k i e) (p .0)
     go false e h ih = ih h
 
--- a playing track is PLAYING, and its bit in the word is set
-all-playing : (Q : ℕ → Type 0) (n word : ℕ) (ts : List Track) → ((j : ℕ) → j < length ts → word / 2 ^ j % 2 ≡ 1 → Q (n + j))
-    → EachPlaying (λ k t. (t .mode ≡ PLAYING) × Q k) n word ts
-unfolding EachPlaying
-all-playing Q n word [] f = tt
-all-playing Q n word (t ∷ ts) f = (
-  λ h. let p = bit-plays (word % 2) t h in
-      let set : word % 2 ≡ 1 = omega arith in
-      (p .0, subst Q (add-zero n) (f 0 (zero-lt-suc (length ts)) (ap (λ (m : ℕ). m % 2) (div-one word) ∙ set))),
-  all-playing Q (suc n) (word / 2) ts
-      (λ j l e. subst Q (add-suc n j ∙ sym (suc-add n j)) (f (suc j) (suc-le-suc l) (ap (λ (m : ℕ). m % 2) (sym (half-bit word j)) ∙ e))),
-)
-
 -- a member of the playing word is PLAYING, and present
 plays-is : (b : Board) (i : ℕ) → length (b .tracks) ≡ trackCount → plays b i ≡ true
     → (trackAt (b .tracks) i .mode ≡ PLAYING) × (isPresent (b .present) i ≡ true)
 plays-is b i l =
     each-has (λ k. (trackAt (b .tracks) k .mode ≡ PLAYING) × (isPresent (b .present) k ≡ true)) i (members (playingWord (b .present) (b .tracks)))
-    (each-member (λ k t. (t .mode ≡ PLAYING) × (isPresent (b .present) k ≡ true)) (b .present) (b .tracks) l
-    (all-playing (λ k. isPresent (b .present) k ≡ true) 0 (b .present) (b .tracks)
-    (λ j m e. rw (zero-add j) (sym (present-bit (b .present) j (omega arith)) ∙ eq-eqb _ 1 e))))
+    (members-present (b .present) (b .tracks) l)
 
 -- a step
 step-path : (t : Track) (d : ℕ) → t .mode ≡ PLAYING → Path (t .mode) (stepActs t d) (step t (waits d) .mode)

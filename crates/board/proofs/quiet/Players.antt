@@ -1,22 +1,24 @@
 -- The playing tracks of a board: the members of its playing word, or one after the other along the list of tracks.
-use Prim.Native.Nat.{ℕ, zero, suc, _+_, _*_, _/_, _%_, _^_, _≤_, _<_}
-use mathlib.Core.Path.{_≡_, refl, ap, _∙_}
+use Prim.Native.Nat.{ℕ, zero, suc, _+_, _*_, _/_, _%_, _^_, _≤_, _<_, suc-le-suc}
+use mathlib.Core.Path.{_≡_, refl, sym, ap, subst, _∙_}
 use mathlib.Core.Logic.{_⊎_, inl, inr}
 use mathlib.Core.Bool.{Bool, true, false, cond}
 use mathlib.Core.List.{List, [], _∷_, _++_}
 use native.Mathlib.Omega.{arith}
-use native.Mathlib.Nat.{pow-suc}
+use native.Mathlib.Nat.{add-zero, zero-add, add-suc, suc-add, div-one, zero-lt-suc, pow-suc}
 use native.Mathlib.Numerals.{add-one}
 use lib.Dec.{eqb}
 use lib.ListN.{length, length-append}
 use lib.Seq.{getD-at, append-snoc}
-use borrow.Author.Tests.{eqb-true}
+use borrow.Author.Tests.{eqb-true, eq-eqb}
 use Rattle.track.specs.declared.Track.{Track}
 use Rattle.track.specs.Rule.{PLAYING}
-use Rattle.board.specs.Board.{noTrack, trackAt}
-use Rattle.board.specs.Tick.{keep, membersFrom, members, playBit, playingWord}
-use Rattle.board.specs.Quiet.{Each, Some}
 use Rattle.board.specs.Points.{trackCount}
+use Rattle.board.specs.Board.{noTrack, trackAt, isPresent}
+use Rattle.board.proofs.rules.Broken.{present-bit, half-bit}
+use Rattle.board.specs.Tick.{keep, membersFrom, members, playBit, playingWord}
+use Rattle.board.specs.Replay.{Each}
+use Rattle.board.specs.Quiet.{Some}
 
 -- the playing tracks of ts, the first of which has the number n; `present` is the word of those present
 unfoldable pub EachPlaying : (ℕ → Track → Type 0) → ℕ → ℕ → List Track → Type 0
@@ -178,3 +180,26 @@ module _ (P : ℕ → Track → Type 0) where
     -- and the other way
     pub some-member : SomePlaying P 0 present ts → Some (On ts) (members (playingWord present ts))
     some-member a = rw (members-playing present ts l) (list-some 0 present [] ts refl a)
+
+-- ---- the playing tracks are present
+
+-- a playing track is PLAYING, and its bit in the word is set
+all-playing : (Q : ℕ → Type 0) (n word : ℕ) (ts : List Track) → ((j : ℕ) → j < length ts → word / 2 ^ j % 2 ≡ 1 → Q (n + j))
+    → EachPlaying (λ k t. (t .mode ≡ PLAYING) × Q k) n word ts
+unfolding EachPlaying
+all-playing Q n word [] f = tt
+all-playing Q n word (t ∷ ts) f = (
+  λ h. let p = bit-plays (word % 2) t h in
+      let set : word % 2 ≡ 1 = omega arith in
+      (p .0, subst Q (add-zero n) (f 0 (zero-lt-suc (length ts)) (ap (λ (m : ℕ). m % 2) (div-one word) ∙ set))),
+  all-playing Q (suc n) (word / 2) ts
+      (λ j l e. subst Q (add-suc n j ∙ sym (suc-add n j)) (f (suc j) (suc-le-suc l) (ap (λ (m : ℕ). m % 2) (sym (half-bit word j)) ∙ e))),
+)
+
+-- a member of the playing word is PLAYING, and present
+pub members-present : (present : ℕ) (ts : List Track) → length ts ≡ trackCount
+    → Each (λ k. (trackAt ts k .mode ≡ PLAYING) × (isPresent present k ≡ true)) (members (playingWord present ts))
+members-present present ts l =
+    each-member (λ k t. (t .mode ≡ PLAYING) × (isPresent present k ≡ true)) present ts l
+    (all-playing (λ k. isPresent present k ≡ true) 0 present ts
+    (λ j m e. rw (zero-add j) (sym (present-bit present j (omega arith)) ∙ eq-eqb _ 1 e)))

@@ -18,7 +18,8 @@ use Rattle.board.specs.Points.{key, waits, trackCount}
 use Rattle.board.specs.Board.{noTrack, trackAt}
 use Rattle.board.specs.Tick.{keep, members}
 use Rattle.board.specs.Tick.{pointRecords, changeRecords, playBit, playingWord, Stage, staged, foundBy, stepRecords, reachedBy, stepMember, stepAll, runAll, tickFrom}
-use Rattle.board.specs.Quiet.{Each, Some, Telling, reaches, loud, Calm, Fewest, Leapable, leapTracks}
+use Rattle.board.specs.Replay.{Each}
+use Rattle.board.specs.Quiet.{Some, Telling, reaches, loud, Calm, Fewest, Leapable, leapTracks}
 use Rattle.board.proofs.points.Table.{info-none}
 use Rattle.board.proofs.tick.Commands.{run-more}
 use Rattle.board.proofs.tick.Steps.{steps-more}

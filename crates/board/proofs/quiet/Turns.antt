@@ -9,7 +9,8 @@ use Rattle.track.specs.declared.Track.{Track}
 use Rattle.track.specs.Rule.{clockEnd}
 use Rattle.track.specs.Leap.{leap}
 use Rattle.board.specs.Board.{trackAt}
-use Rattle.board.specs.Quiet.{Each, Some, QuietSteps, Fewest, Able, Leapable, leapInto}
+use Rattle.board.specs.Replay.{Each}
+use Rattle.board.specs.Quiet.{Some, QuietSteps, Fewest, Able, Leapable, leapInto}
 use Rattle.board.proofs.points.Keys.{lt-or-ge}
 
 module _ (ts : List Track) (ms is : List ℕ) (i : ℕ) (e : ms ≡ i ∷ is) where

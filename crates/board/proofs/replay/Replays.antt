@@ -3,18 +3,17 @@ use mathlib.Core.Path.{_≡_, refl, sym, _∙_, ap}
 use mathlib.Core.List.{List, [], _∷_, _++_, append-assoc, append-nil}
 use mathlib.Core.Bool.{Bool, true, false, cond}
 use mathlib.Core.Option.{Option, none, some}
-use mathlib.Core.Logic.{_⊎_, inl, inr}
 use Prim.Native.Nat.{ℕ, zero, suc, _+_, _*_, _≤_}
 use native.Mathlib.Nat.{add-zero, zero-add, suc-add, add-suc, add-assoc, add-comm, mul-add, mul-one, mul-zero, mul-suc}
 use native.Mathlib.Nat.{le-trans, mul-le-mul-left}
 use native.Mathlib.Omega.{arith}
 use lib.ListN.{length, take, drop, set, length-append, drop-of-length-le, length-take}
-use lib.Seq.{sets, slice, sets-eq, length-sets, take-at, drop-at, length-take-le}
+use lib.Seq.{sets, slice, sets-eq, length-sets, take-at, drop-at, length-take-le, drop-append-le}
 use Rattle.board.specs.Log.{writeAt}
 use Rattle.board.specs.Cut.{Ran, Did, All, ticks, passed, advance, crossed, Part, run, one, merge, observe, performs}
 use Rattle.board.specs.Replay.{Made, Rules, World, State, flat, wrote, w-halt, w-bar, w-step, perform}
-use Rattle.board.specs.Replay.{puts, takes, r-halt, r-bar, r-step, replay, shown, written, writtens}
-use Rattle.board.specs.Replay.{only, boards, ticked, gathered, total}
+use Rattle.board.specs.Replay.{puts, takes, r-halt, r-bar, r-step, replay, shown, written, writtens, clearedBy, clearedAt}
+use Rattle.board.specs.Replay.{Each, only, boards, ticked, gathered, total}
 use Rattle.board.proofs.replay.Cuts.{ticks-on, ticks-off, passed-on, passed-off, advance-in, advance-out, crossed-in, crossed-out}
 use Rattle.board.proofs.replay.Cuts.{mapped-did, advance-map, Read, advance-add, cut}
 
@@ -31,12 +30,16 @@ sets-append l i (x ∷ xs) ys =
     sets-append (set l i x) (suc i) xs ys
     ∙ ap (λ (k : ℕ). sets (sets (set l i x) (suc i) xs) k ys) (suc-add i (length xs) ∙ sym (add-suc i (length xs)))
 
-slice-sets : (l vs : List ℕ) (i j : ℕ) → j ≡ i + length vs → j ≤ length l → slice i j (sets l i vs) ≡ vs
-slice-sets l vs i j e h =
+-- up to their end stand the bytes that stood there, and those stored
+take-sets : (l vs : List ℕ) (i j : ℕ) → j ≡ i + length vs → j ≤ length l → take j (sets l i vs) ≡ take i l ++ vs
+take-sets l vs i j e h =
     let h′ : i + length vs ≤ length l = omega arith in
     let t : length (take i l) ≡ i = length-take-le i l (omega arith) in
     let n : length (take i l ++ vs) ≡ i + length vs = length-append (take i l) vs ∙ rw t in
-    rw (e, sets-eq vs l i h′, take-at (take i l ++ vs) (drop (i + length vs) l) (i + length vs) n) (drop-at (take i l) vs i t)
+    rw (e, sets-eq vs l i h′) (take-at (take i l ++ vs) (drop (i + length vs) l) (i + length vs) n)
+
+slice-sets : (l vs : List ℕ) (i j : ℕ) → j ≡ i + length vs → j ≤ length l → slice i j (sets l i vs) ≡ vs
+slice-sets l vs i j e h = rw (take-sets l vs i j e h) (drop-at (take i l) vs i (length-take-le i l (omega arith)))
 
 slice-back : (l : List ℕ) (i j : ℕ) → j ≤ i → slice i j l ≡ []
 slice-back l i j h =
@@ -46,7 +49,7 @@ slice-back l i j h =
 -- ---- what the rules must keep
 
 module _ (R : Rules) where
-  open Rules R using (Board, Rec, Call, held, grown, width, bytes, tick, halt, makes)
+  open Rules R using (Board, Rec, Call, held, grown, width, bytes, tick, halt, makes, clears)
 
   -- records have one length in the log, and growing adds up
   pub record Counts : Type 0 where
@@ -55,12 +58,16 @@ module _ (R : Rules) where
     pub grown-zero : (b : Board) → grown b 0 ≡ b
     pub grown-grown : (b : Board) (m n : ℕ) → grown (grown b m) n ≡ grown b (m + n)
 
-  -- records are written only where they fit, and a call that lets held ones go writes none
+  -- what a call leaves of the held records: none if it is a clear that is accepted, which writes none either, else all
+  abbrev pub Leaves : Bool → Board → Made Board Rec → Type 0
+  Leaves true b m = (m .records ≡ []) × (held (m .board) ≡ 0)
+  Leaves false b m = held (m .board) ≡ held b
+
+  -- records are written only where they fit, and a call leaves the held ones or lets them go
   pub record Room : Type 0 where
     pub tick-held : (b : Board) → held (tick b .board) ≡ held b
     pub tick-fits : (n : ℕ) (b : Board) → halt n b ≡ none → width * (held b + length (tick b .records)) ≤ n
-    pub call-held : (c : Call) (n : ℕ) (b : Board) →
-        ((makes c n b .records ≡ []) × (held (makes c n b .board) ≤ held b)) ⊎ (held (makes c n b .board) ≡ held b)
+    pub call-held : (c : Call) (n : ℕ) (b : Board) → Leaves (clears c b) b (makes c n b)
     pub call-fits : (c : Call) (n : ℕ) (b : Board) → width * held b ≤ n
         → width * (held (makes c n b .board) + length (makes c n b .records)) ≤ n
 
@@ -188,7 +195,7 @@ module _ (R : Rules) (K : Counts R) where
   })
 
 module _ (R : Rules) (K : Counts R) (M : Room R) where
-  open Rules R using (Board, Rec, Call, Answer, Stop, held, width, tick, makes, done, refuse)
+  open Rules R using (Board, Rec, Call, Answer, Stop, held, width, tick, makes, clears, done, refuse)
   open Room M using (tick-held, tick-fits, call-held, call-fits)
 
   -- the held records are in the log
@@ -241,7 +248,7 @@ module _ (R : Rules) (K : Counts R) (M : Room R) where
       go none e = rw (advance-in (r-halt R) (r-step R) (r-bar R) done refuse n s e) (wrote-behind (ticks-behind n s f))
       go (some x) e =
           rw (advance-out (r-halt R) (r-step R) (r-bar R) done refuse n s x e) (wrote-behind (behind-none R K s f))
-  wrote-one (one c) s f = go (call-held c (length (s .log)) (s .board))
+  wrote-one (one c) s f = go (clears c (s .board)) (call-held c (length (s .log)) (s .board))
     where
       m : Made Board Rec
       m = makes c (length (s .log)) (s .board)
@@ -249,17 +256,16 @@ module _ (R : Rules) (K : Counts R) (M : Room R) where
       g : width * (held (m .board) + length (m .records)) ≤ length (s .log)
       g = call-fits c (length (s .log)) (s .board) f
 
-      less : (m .records ≡ []) × (held (m .board) ≤ held (s .board)) → width * held (m .board) ≤ width * held (s .board)
-      less h = mul-le-mul-left width (h .1)
+      less : held (m .board) ≡ 0 → width * held (m .board) ≤ width * held (s .board)
+      less h = mul-le-mul-left width (omega arith)
 
-      go : ((m .records ≡ []) × (held (m .board) ≤ held (s .board))) ⊎ (held (m .board) ≡ held (s .board))
-          → Wrote s (takes R m s)
-      go (inr h) = wrote-behind (behind-takes R K m s h (rw h at g))
-      go (inl h) = rw (h .0) (record {
+      go : (z : Bool) → Leaves R z (s .board) m → Wrote s (takes R m s)
+      go false h = wrote-behind (behind-takes R K m s h (rw h at g))
+      go true h = rw (h .0) (record {
         recs = [];
         row-is = sym (append-nil (s .row));
-        written-is = slice-back (s .log) (width * held (s .board)) (width * held (m .board)) (less h);
-        still-fits = le-trans (less h) f;
+        written-is = slice-back (s .log) (width * held (s .board)) (width * held (m .board)) (less (h .1));
+        still-fits = le-trans (less (h .1)) f;
       })
 
   -- the row is what the calls write, call after call
@@ -273,6 +279,120 @@ module _ (R : Rules) (K : Counts R) (M : Room R) where
       rows ps t (w .still-fits)
       ∙ rw (e, w .written-is, w .row-is, flat-append R K (s .row) (w .recs))
       (append-assoc (flat R (s .row)) (flat R (w .recs)) (writtens R ps (shown R t)))
+
+  -- ---- the held records
+
+  -- they are those of the row behind its first n, in the log too
+  pub record Holds (s : State Board Rec) (n : ℕ) : Type 0 where
+    pub row-long : n ≤ length (s .row)
+    pub held-is : held (s .board) ≡ length (drop n (s .row))
+    pub bytes-are : take (width * held (s .board)) (s .log) ≡ flat R (drop n (s .row))
+
+  holds-behind : {s s′ : State Board Rec} {n : ℕ} → Behind R K s s′ → Holds s n → Holds s′ n
+  holds-behind {s} {s′} {n} p h =
+      let rs = p .recs in
+      let d : drop n (s′ .row) ≡ drop n (s .row) ++ rs = ap (drop n) (p .row-is) ∙ drop-append-le n (s .row) rs (h .row-long) in
+      let j : width * held (s′ .board) ≡ width * held (s .board) + length (flat R rs) =
+      rw (p .held-is, mul-add width (held (s .board)) (length rs), flat-length R K rs) in
+      record {
+        row-long = rw (p .row-is, length-append (s .row) rs) (omega (arith, h .row-long));
+        held-is = p .held-is ∙ rw (h .held-is, d) (sym (length-append (drop n (s .row)) rs));
+        bytes-are =
+            ap (take (width * held (s′ .board))) (p .log-is)
+            ∙ take-sets (s .log) (flat R rs) (width * held (s .board)) (width * held (s′ .board)) j (p .fits)
+            ∙ rw (h .bytes-are, d) (sym (flat-append R K (drop n (s .row)) rs));
+      }
+
+  holds-none : (s : State Board Rec) → held (s .board) ≡ 0 → Holds s (length (s .row))
+  holds-none s h =
+      let d : drop (length (s .row)) (s .row) ≡ [] = drop-of-length-le (s .row) {i = length (s .row)} (omega arith) in
+      record { row-long = omega arith; held-is = rw d h; bytes-are = rw (d, h, mul-zero width) }
+
+  holds-one : (p : Part Call) (s : State Board Rec) (n : ℕ) → Fits s → Holds s n → Holds (replay R p s .left) (clearedBy R p s n)
+  holds-one (run k) s n f h = go (r-bar R s) refl
+    where
+      go : (o : Option ℕ) → r-bar R s ≡ o → Holds (replay R (run k) s .left) n
+      go none e = rw (advance-in (r-halt R) (r-step R) (r-bar R) done refuse k s e) (holds-behind (ticks-behind k s f) h)
+      go (some x) e = rw (advance-out (r-halt R) (r-step R) (r-bar R) done refuse k s x e) h
+  holds-one (one c) s n f h = go (clears c (s .board)) (call-held c (length (s .log)) (s .board))
+    where
+      m : Made Board Rec
+      m = makes c (length (s .log)) (s .board)
+
+      g : width * (held (m .board) + length (m .records)) ≤ length (s .log)
+      g = call-fits c (length (s .log)) (s .board) f
+
+      go : (z : Bool) → Leaves R z (s .board) m → Holds (takes R m s) (cond z (length (s .row)) n)
+      go false e = holds-behind (behind-takes R K m s e (rw e at g)) h
+      go true e = rw (e .0) (holds-none _ (e .1))
+
+  -- after every list of calls they are those that the row has got since the last accepted clear
+  pub holds : (ps : List (Part Call)) (s : State Board Rec) (n : ℕ) → width * held (s .board) ≤ length (s .log) → Holds s n
+      → Holds (performs (replay R) ps s .last) (clearedAt R ps s n)
+  holds [] s n f h = h
+  holds (p ∷ ps) s n f h = holds ps (replay R p s .left) (clearedBy R p s n) (wrote-one p s f .still-fits) (holds-one p s n f h)
+
+-- ---- what every record of the row keeps
+
+-- of one list behind another, those of the one and those of the other
+pub each-append : {A : Type 0} (P : A → Type 0) (xs ys : List A) → Each P xs → Each P ys → Each P (xs ++ ys)
+unfolding Each
+each-append P [] ys p q = q
+each-append P (x ∷ xs) ys p q = (p .0, each-append P xs ys (p .1) q)
+
+-- what follows of every element
+pub each-follows : {A : Type 0} {P Q : A → Type 0} → ((x : A) → P x → Q x) → (xs : List A) → Each P xs → Each Q xs
+unfolding Each
+each-follows f [] p = tt
+each-follows f (x ∷ xs) p = (f x (p .0), each-follows f xs (p .1))
+
+-- the elements behind the first n are some of them
+pub each-drop : {A : Type 0} (P : A → Type 0) (n : ℕ) (xs : List A) → Each P xs → Each P (drop n xs)
+unfolding Each
+each-drop P zero xs p = p
+each-drop P (suc n) [] p = tt
+each-drop P (suc n) (x ∷ xs) p = each-drop P n xs (p .1)
+
+-- `Kept` holds of every board on the way, and so `P` of every record
+module _ (R : Rules) (K : Counts R) (Kept : R .Board → Type 0) (P : R .Rec → Type 0)
+    (tick-kept : (n : ℕ) (b : R .Board) → Kept b → R .halt n b ≡ none
+    → Each P (R .tick b .records) × Kept (R .grown (R .tick b .board) (length (R .tick b .records))))
+    (call-kept : (c : R .Call) (n : ℕ) (b : R .Board) → Kept b
+    → Each P (R .makes c n b .records) × Kept (R .grown (R .makes c n b .board) (length (R .makes c n b .records)))) where
+  open Rules R using (Board, Rec, Call, Stop, grown, tick, makes, done, refuse)
+
+  abbrev pub Keeps : State Board Rec → Type 0
+  Keeps s = Kept (s .board) × Each P (s .row)
+
+  takes-keep : (m : Made Board Rec) (s : State Board Rec) → Each P (s .row)
+      → Each P (m .records) × Kept (grown (m .board) (length (m .records))) → Keeps (takes R m s)
+  takes-keep m s h g = rw (takes-all R K m s) (g .1, each-append P (s .row) (m .records) h (g .0))
+
+  ticks-keep : (n : ℕ) (s : State Board Rec) → Keeps s → Keeps (ticks (r-halt R) (r-step R) n s .end)
+  unfolding ticks
+  ticks-keep zero s h = h
+  ticks-keep (suc n) s h = go (r-halt R s) refl (ticks-keep n (r-step R s))
+    where
+      go : (o : Option Stop) → r-halt R s ≡ o → (Keeps (r-step R s) → Keeps (ticks (r-halt R) (r-step R) n (r-step R s) .end))
+          → Keeps (ticks (r-halt R) (r-step R) (suc n) s .end)
+      go none e ih =
+          rw (ticks-on (r-halt R) (r-step R) n s e)
+          (ih (takes-keep (tick (s .board)) s (h .1) (tick-kept (length (s .log)) (s .board) (h .0) e)))
+      go (some x) e ih = rw (ticks-off (r-halt R) (r-step R) n s x e) h
+
+  part-keeps : (p : Part Call) (s : State Board Rec) → Keeps s → Keeps (replay R p s .left)
+  part-keeps (one c) s h =
+      takes-keep (makes c (length (s .log)) (s .board)) s (h .1) (call-kept c (length (s .log)) (s .board) (h .0))
+  part-keeps (run n) s h = go (r-bar R s) refl
+    where
+      go : (o : Option ℕ) → r-bar R s ≡ o → Keeps (replay R (run n) s .left)
+      go none e = rw (advance-in (r-halt R) (r-step R) (r-bar R) done refuse n s e) (ticks-keep n s h)
+      go (some x) e = rw (advance-out (r-halt R) (r-step R) (r-bar R) done refuse n s x e) h
+
+  -- after every list of calls too
+  pub list-keeps : (ps : List (Part Call)) (s : State Board Rec) → Keeps s → Keeps (performs (replay R) ps s .last)
+  list-keeps [] s h = h
+  list-keeps (p ∷ ps) s h = list-keeps ps (replay R p s .left) (part-keeps p s h)
 
 -- ---- the records of one kind
 

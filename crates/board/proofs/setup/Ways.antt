@@ -1,12 +1,11 @@
 -- The ways of each call: what holds of its refusals and of what it accepts holds of its outcome.
 use Prim.Native.Nat.{ℕ, _+_, _-_, _^_, _≤_, _<_}
-use mathlib.Core.Path.{_≡_, refl, ap, _∙_}
+use mathlib.Core.Path.{_≡_, refl}
 use mathlib.Core.Bool.{true, false}
 use native.Mathlib.Omega.{arith}
 use lib.Dec.{ltb, eqb}
 use lib.IntN.{ℤ}
 use lib.ListN.{set}
-use lib.Seq.{set-getD}
 use borrow.Author.Tests.{ltb-true}
 use Rattle.track.specs.declared.Track.{Track}
 use Rattle.track.specs.declared.Coordinate.{Coordinate}
@@ -118,8 +117,6 @@ module _ (b : Board) (P : Outcome → Type 0) (declines : (n : ℕ) → P (refus
   unfolding clearBoard
   clear-ways does = on-board does
 
--- ---- a refusal leaves the board equal
-
 -- a change that is refused leaves the track equal
 pub changed-refused : (t : Track) (c : Change) {n : ℕ} → changedBy t c .answer ≡ Refused n → changedBy t c .track ≡ t
 unfolding changedBy setBy startSet endSet loopsSet repeatSet directionSet actionSet jumpTo
@@ -144,35 +141,3 @@ changed-refused t c {n} = cond-cases Kept (permits c (t .mode)) (λ _. by c) (λ
         (λ y _. by-natural Kept (naturalOf event 0 255) _ _
         (λ _ _. cond-cases Kept (eqb x y) (λ _ e. refl) (λ _ e. cc)) (λ e. refl)) (λ e. refl)) (λ e. refl)
     by (change.Jump p) = by-place Kept (within (t .start .0) (t .end .0) (coordinateOf p)) _ _ (λ _ _ e. cc) (λ e. refl)
-
-module _ (b : Board) where
-  abbrev Equal : ℕ → Outcome → Type 0
-  Equal n o = o .answer ≡ Refused n → o .board ≡ b
-
-  -- a refused set-up call leaves the board equal
-  pub set-up-refused : (track : ℤ) (c : Change) {n : ℕ} → setUp b track c .answer ≡ Refused n → setUp b track c .board ≡ b
-  set-up-refused track c {n} =
-      set-up-ways b (Equal n) (λ m e. refl) track c
-      (λ i _ e.
-      ap (λ (t : Track). boardWith b (set (b .tracks) i t) (b .present) (b .points) (b .held)) (changed-refused (trackAt (b .tracks) i) c e)
-      ∙ rw (set-getD (b .tracks) i))
-
-  -- a track refused leaves the board equal
-  pub add-track-refused : (number min max : ℤ) {n : ℕ} → addTrack b number min max .answer ≡ Refused n → addTrack b number min max .board ≡ b
-  add-track-refused number min max {n} =
-      add-track-ways b (Equal n) (λ m e. refl) number min max (λ i low high _ _ _ _ e. cc)
-
-  -- a point refused leaves the board equal
-  pub set-point-refused : (track position event wait command target : ℤ) {n : ℕ} →
-      setPoint b track position event wait command target .answer ≡ Refused n →
-      setPoint b track position event wait command target .board ≡ b
-  set-point-refused track position event wait command target {n} =
-      set-point-ways b (Equal n) (λ m e. refl) track position event wait command target (λ p _ _ e. cc)
-
-  -- a drop refused leaves the board equal
-  pub drop-point-refused : (track position : ℤ) {n : ℕ} → dropPoint b track position .answer ≡ Refused n → dropPoint b track position .board ≡ b
-  drop-point-refused track position {n} = drop-point-ways b (Equal n) (λ m e. refl) track position (λ k _ e. cc)
-
-  -- a clear refused leaves the board equal
-  pub clear-refused : {n : ℕ} → clearBoard b .answer ≡ Refused n → clearBoard b .board ≡ b
-  clear-refused {n} = clear-ways b (Equal n) (λ m e. refl) (λ e. cc)

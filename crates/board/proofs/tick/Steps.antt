@@ -172,6 +172,21 @@ module _ (low high : Coordinate) where
   unfolding entered
   entered-bounded t b m = cond-cases Bounded (eqb m STOPPED) (λ e. b) (λ e. b)
 
+-- ---- a sound track
+
+module _ (t : Track) (now : Ticks) (s : Sound t now) where
+  -- is sound in every mode
+  pub entered-sound : (m : ℕ) → m ≤ WAITING → Sound (entered t m) now
+  entered-sound m l = record { valid = entered-valid t (s .valid) m l; passes = omega (arith, s .passes, entered-passes t m) }
+
+  -- one tick later
+  pub later-sound : Sound t (record { 0 = now .0 + 1 })
+  later-sound = record { valid = s .valid; passes = omega (arith, s .passes) }
+
+  -- and stepped by then
+  pub step-sound : (w : Bool) → Sound (step t w) (record { 0 = now .0 + 1 })
+  step-sound w = record { valid = step-valid t (s .valid) w; passes = omega (arith, s .passes, step-passes t w) }
+
 -- ---- a tick
 
 module _ (keys infos : List ℕ) (clock present : ℕ) (ts : List Track) where
@@ -204,9 +219,8 @@ module _ (keys infos : List ℕ) (clock present : ℕ) (ts : List Track) where
   pub tick-sound : (before : Ticks) (i : ℕ) → Sound (trackAt ts i) before → Sound (trackAt (tickFrom keys infos clock present ts .tracks) i) (record { 0 = before .0 + 1 })
   tick-sound before =
       let after : Ticks = record { 0 = before .0 + 1 } in
-      tick-at (λ t. Sound t before) (λ t. Sound t after) (λ t s. record { valid = s .valid; passes = omega (arith, s .passes) })
-      (λ t s w. record { valid = step-valid t (s .valid) w; passes = omega (arith, s .passes, step-passes t w) })
-      (λ t s m l. record { valid = entered-valid t (s .valid) m l; passes = omega (arith, s .passes, entered-passes t m) })
+      tick-at (λ t. Sound t before) (λ t. Sound t after) (λ t s. later-sound t before s) (λ t s w. step-sound t before s w)
+      (λ t s m l. entered-sound t after s m l)
 
   -- and has the bounds that it had
   pub tick-bounds : (i : ℕ) → Bounded (trackAt ts i .min) (trackAt ts i .max) (trackAt (tickFrom keys infos clock present ts .tracks) i)
@@ -270,7 +284,7 @@ tick-keeps b held h l =
 
 module _ (present : ℕ) where
   -- an info that keeps its rule, and whose target is present, if it has a command
-  abbrev Able : ℕ → Type 0
+  abbrev pub Able : ℕ → Type 0
   Able d = InfoRule d × ((commandOf d ≡ 0 → ⊥) → isPresent present (targetOf d) ≡ true)
 
   deed-able : (k d : ℕ) → deedTest present (pointOf k d) ≡ true → Able d
@@ -288,7 +302,8 @@ module _ (present : ℕ) where
   none-able : Able 0
   none-able = (record { event = omega arith; command = omega arith; target = omega arith }, λ n. absurd (n refl))
 
-  found-able : (ts : List Track) (k lo : ℕ) (ks ds : List ℕ) → pointsTest present ts lo ks ds ≡ true → Able (infoAt k ks ds)
+  -- an info that is found, or 0, is one
+  pub found-able : (ts : List Track) (k lo : ℕ) (ks ds : List ℕ) → pointsTest present ts lo ks ds ≡ true → Able (infoAt k ks ds)
   unfolding pointsTest infoAt
   found-able ts k lo [] ds h = none-able
   found-able ts k lo (x ∷ ks) [] h = none-able

@@ -2,18 +2,22 @@
 use Prim.Native.Nat.{ℕ, zero, suc, _+_, _-_, _≤_, _<_, min}
 use mathlib.Core.Path.{_≡_, refl, sym, ap, _∙_}
 use mathlib.Core.Bool.{Bool, true, false}
-use mathlib.Core.List.{List, _++_, append-assoc}
+use mathlib.Core.List.{List, [], _∷_, _++_, append-assoc}
 use native.Mathlib.Omega.{arith}
 use lib.Dec.{leb}
 use lib.ListN.{length, drop, take, length-drop, drop-of-length-le}
-use lib.Seq.{drop-drop, take-all}
+use lib.Seq.{drop-drop, take-all, take-at, drop-at}
 use borrow.Author.Tests.{leb-true, leb-false}
 use Rattle.track.specs.declared.Track.{Track}
-use Rattle.board.specs.Log.{unpackOf}
+use Rattle.board.specs.declared.log.Record.{Record}
+use Rattle.board.specs.declared.log.Unpacked.the-variants.{Held}
+use Rattle.board.specs.Log.{recordWidth, recordBytes, unpackOf}
+use Rattle.board.specs.Replay.{flat, Each}
+use Rattle.board.proofs.log.Records.{length-record}
 use Rattle.board.specs.declared.call.Told.{Told}
-use Rattle.board.specs.Call.{replyOf}
+use Rattle.board.specs.Call.{replyOf, gridstep}
 use Rattle.script.specs.declared.text.Out.{Out}
-use Rattle.script.specs.Output.{noteOf, unpackedLine, recordLines}
+use Rattle.script.specs.Output.{noteOf, unpackedLine, recordLines, lineEach}
 use Rattle.script.specs.Text.{textOf, Wrote}
 
 -- what is printed of an answer that is known
@@ -52,6 +56,19 @@ module _ (s : List ℕ) (at end : ℕ) (within : at ≤ length s) (end-is : end 
 
   record-next : drop 16 (drop at s) ≡ drop end s
   record-next = drop-drop 16 at s ∙ sym (drop-least s (at + 16) end end-is)
+
+-- records whose bytes are the first in the log are shown one line each, if each unpacks to itself
+pub lines-each : (rs : List Record) (rest : List ℕ) → Each (λ r. unpackOf (recordBytes r) ≡ Held r) rs
+    → recordLines (length rs) (flat gridstep rs ++ rest) ≡ lineEach rs
+unfolding Each
+lines-each [] rest h = refl
+lines-each (r ∷ rs) rest h =
+    let more = flat gridstep rs ++ rest in
+    let e : flat gridstep (r ∷ rs) ++ rest ≡ recordBytes r ++ more = append-assoc (recordBytes r) (flat gridstep rs) rest in
+    let l = length-record r in
+    ap (λ (s : List ℕ). unpackedLine (unpackOf (take recordWidth s)) ++ recordLines (length rs) (drop recordWidth s)) e
+    ∙ (λ i. unpackedLine (unpackOf (take-at (recordBytes r) more recordWidth l i)) ++ recordLines (length rs) (drop-at (recordBytes r) more recordWidth l i))
+    ∙ (λ i. unpackedLine (h .0 i) ++ lines-each rs rest (h .1) i)
 
 lines-next : (n : ℕ) (s : List ℕ) → 0 < n → recordLines n s ≡ unpackedLine (unpackOf (take 16 s)) ++ recordLines (n - 1) (drop 16 s)
 lines-next zero s h = absurd (omega arith)

@@ -14,7 +14,8 @@ use Rattle.board.proofs.log.Words.{length-write}
 use Rattle.board.specs.Log.{writeAt, recordWidth, logBytes, capacity}
 use Rattle.board.proofs.advance.run.Tie as tie
 use Rattle.board.specs.Points.{keysOf, infosOf, trackCount}
-use Rattle.board.specs.Quiet.{Each, Calm, Fewest, Able, Leapable, leapTracks, leapInto}
+use Rattle.board.specs.Replay.{Each}
+use Rattle.board.specs.Quiet.{Calm, Fewest, Able, Leapable, leapTracks, leapInto}
 use Rattle.board.specs.declared.Board.{Board}
 use Rattle.board.specs.Board.{Unbroken, trackAt, boardOf, Shaped}
 use Rattle.board.specs.Tick.{Stage, playingWord, members, tickMost}
