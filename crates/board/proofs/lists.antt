@@ -3,3 +3,4 @@ pub mod Reports
 pub mod Replayed
 pub mod Executing
 pub mod Cards
+pub mod Examples
