@@ -4,3 +4,4 @@ pub mod Replayed
 pub mod Executing
 pub mod Cards
 pub mod Examples
+pub mod Rejected
