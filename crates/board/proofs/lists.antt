@@ -6,3 +6,5 @@ pub mod Replayed
 pub mod Taken
 pub mod Executing
 pub mod Cards
+pub mod Examples
+pub mod Rejected

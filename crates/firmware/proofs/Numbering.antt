@@ -55,6 +55,10 @@ said : (n : ℕ) → answered (answerOf n) ≡ numberSaid n
 said zero = refl
 said (suc n) = refl
 
+-- so does the number of what a ruling answers
+pub ruling-said : (b : Board) (n : ℕ) (track : ℤ) (code : ℕ) → numberSaid (numberOf (modeRuling b n track code .answer)) ≡ answered (modeRuling b n track code .answer)
+ruling-said b n track code = sym (said (numberOf (modeRuling b n track code .answer))) ∙ ap answered (ruling-numbered b n track code)
+
 -- what a call gives, by the number
 pub gives-number : {d : Did Reply (World Board)} (n : ℕ) {board : Board} {log : List ℕ} → Gives d (answered (answerOf n)) board log → Gives d (numberSaid n) board log
 gives-number n g = record { answer-is = sym (said n) ∙ g .answer-is; board-is = g .board-is; log-is = g .log-is }

@@ -66,6 +66,12 @@ pause i = call.Pause (pos i)
 abbrev pub resume : ℕ → Call
 resume i = call.Resume (pos i)
 
+abbrev pub stop : ℕ → Call
+stop i = call.Stop (pos i)
+
+abbrev pub drop : ℕ → ℕ → Call
+drop i p = call.DropPoint (pos i) (pos p)
+
 abbrev pub advance : ℕ → Call
 advance n = call.Advance (pos n)
 
@@ -137,9 +143,12 @@ by-log f p = p ∙ ap f (sym log-a)
 abbrev pub seenA : List Reply → ℕ → ℕ → List ℕ → Shown
 seenA others clock held log = record { answers = replicate 9 accepted ++ others; clock = clock; held = held; log = log }
 
--- the board with its clock at 999,999,999
+-- the board with its clock at n, and at 999,999,999
+abbrev pub clockAt : ℕ → Board → Board
+clockAt n b = record { tracks = b .tracks; present = b .present; points = b .points; clock = record { 0 = n }; held = b .held }
+
 abbrev pub lateBoard : Board → Board
-lateBoard b = record { tracks = b .tracks; present = b .present; points = b .points; clock = record { 0 = 999999999 }; held = b .held }
+lateBoard b = clockAt 999999999 b
 
 -- E: what an advance of 5, and then one of 0, come to on that board
 abbrev pub Ends : Board → Type 0
@@ -216,6 +225,10 @@ cards =
 
 -- ---- the traps of 01
 
+-- two tracks play; track 0's point on its home pauses track 1, which has a point on its own home
+abbrev pub callsPaired : List Call
+callsPaired = track 0 0 10 ∷ track 1 4 10 ∷ point 0 0 7 0 2 1 ∷ point 1 4 8 0 0 0 ∷ action 1 1 2 30 ∷ play 0 ∷ play 1 ∷ []
+
 -- Of the others the cards tell: the point on home is reported at play, and a waiting track is owed none of the ticks it stood
 -- (A's first record, and its fourth); record 9 of B isn't written without record 20 (B's log).
 pub record Traps : Type 0 where
@@ -223,7 +236,7 @@ pub record Traps : Type 0 where
   pub again : shown (setUpA ++ (play 0 ∷ advance 1 ∷ pause 0 ∷ resume 0 ∷ advance 1 ∷ [])) (fresh 96)
       ≡ seenA (done 1 ∷ accepted ∷ accepted ∷ done 1 ∷ []) 2 1 (take 16 (logBytes recordsA) ++ replicate 80 0)
   -- no command acts before a higher track has stepped in that tick: track 0's point pauses track 1, which reports its own first
-  pub higher : shown (track 0 0 10 ∷ track 1 4 10 ∷ point 0 0 7 0 2 1 ∷ point 1 4 8 0 0 0 ∷ action 1 1 2 30 ∷ play 0 ∷ play 1 ∷ advance 1 ∷ []) (fresh 48)
+  pub higher : shown (callsPaired ++ (advance 1 ∷ [])) (fresh 48)
       ≡ record {
         answers = replicate 7 accepted ++ (done 1 ∷ []);
         clock = 1;
