@@ -254,6 +254,10 @@ pub record Gives (d : Did Reply (World Board)) (reply : Reply) (board : Board) (
   pub board-is : board ≡ d .left .board
   pub log-is : log ≡ d .left .log
 
+-- the same of a call that takes no log: whatever the log, it leaves it
+abbrev pub Leaves : Call → Board → Reply → Board → Type 0
+Leaves c b reply board = (log : List ℕ) → Gives (does c (world b log)) reply board log
+
 -- ---- What a call tells, as the code has it, and 01's reply.
 
 abbrev pub replyOf : Told → Track → Reply
