@@ -1,5 +1,10 @@
 use Rattle.board.proofs.row.point_row.Statement.{statement}
 use Rattle.board.proofs.row.point_row.Tie as tie
+use Prim.Native.Nat.{ℕ}
+use mathlib.Core.List.{List, _∷_}
+use mathlib.Core.Path.{ap}
+use Rattle.board.specs.Row.{padded}
+use Rattle.board.proofs.row.Encoding.{point-coordinate}
 use borrow.Author.Needs.{needs}
 
 array-write-row : tie.Need-array-write-row
@@ -42,7 +47,9 @@ array-write-row-7 : tie.Need-array-write-row-7
 array-write-row-7 c = search needs
 
 returns : tie.Need-returns
-returns c = rw (c .before .before .bit .ensures)
+returns c =
+    let p = c .before .before .before .before .before .before .args .p in
+    ap (λ (ns : List ℕ). padded (7 ∷ ns)) (point-coordinate p (c .before .before .bit .ensures))
 
 pub point-row-spec : {M : Type 1} → statement M
 point-row-spec =
