@@ -49,7 +49,7 @@ natural-of k least most h l = simp (le-leb _ _ l, le-leb _ _ h)
 -- ---- coordinates and positions are inverse
 
 -- the position of the coordinate k, by its sign
-by-sign : (P : ℤ → Type 0) (k : ℕ) → (1000000 ≤ k → P (pos (k - 1000000))) → (k < 1000000 → P (negsuc (1000000 - suc k))) →
+pub by-sign : (P : ℤ → Type 0) (k : ℕ) → (1000000 ≤ k → P (pos (k - 1000000))) → (k < 1000000 → P (negsuc (1000000 - suc k))) →
     P (valueOf (record { 0 = k }))
 unfolding valueOf
 by-sign P k f g = at (ltb k 1000000) refl

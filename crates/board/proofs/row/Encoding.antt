@@ -24,7 +24,6 @@ use Rattle.track.proofs.Numbers.{natural-in, natural-of, coordinate-at, back}
 use Rattle.board.specs.Log.{writeAt}
 use Rattle.board.specs.Row.{callFrom, callOf, callAt, padded, trackNumbers, pointNumbers}
 use Rattle.board.specs.Call.{TrackValues, trackValues, pointValues}
-use Rattle.board.specs.Points.{bit}
 use Rattle.board.specs.declared.points.Point.{Point}
 
 -- ---- the call of a row
@@ -141,7 +140,7 @@ track-coordinates t =
     at : (c : Coordinate) → c .0 ≡ coordinateAt (valueOf c) .0
     at c = ap (λ (d : Coordinate). d .0) (sym (coordinate-at c))
 
-pub point-coordinate : (p : Point) {wait : ℕ} → wait ≡ bit (p .wait) →
+pub point-coordinate : (p : Point) {wait : ℕ} → wait ≡ pointValues p .wait →
     p .track ∷ p .position .0 ∷ p .event ∷ wait ∷ p .command ∷ p .target ∷ [] ≡ pointNumbers (pointValues p)
 point-coordinate p e = λ i. p .track ∷ sym (coordinate-at (p .position)) i .0 ∷ p .event ∷ e i ∷ p .command ∷ p .target ∷ []
 
