@@ -1,5 +1,5 @@
 -- What every call does with a board and a log: the answers by 01's numbers, and the board as a machine of lists of calls.
-use Prim.Native.Nat.{ℕ, _+_}
+use Prim.Native.Nat.{ℕ, _+_, _<_}
 use mathlib.Core.Bool.{cond}
 use mathlib.Core.Path.{_≡_}
 use mathlib.Core.List.{List, []}
@@ -31,13 +31,14 @@ use Rattle.board.specs.declared.call.Call.{Call}
 use Rattle.board.specs.declared.call.Call.the-variants as call
 use Rattle.board.specs.Log.{recordWidth, recordBytes, capacity}
 use Rattle.board.specs.Points.{bit}
-use Rattle.board.specs.Board.{unbrokenTest}
+use Rattle.board.specs.Board.{unbrokenTest, trackCount}
 use Rattle.board.specs.Setup.{boardWith, setUp, addTrack, setPoint, dropPoint, clearBoard}
 use Rattle.board.specs.Query.{clockOf, trackOf, pointIn, countIn}
 use Rattle.board.specs.Tick.{tickOf}
-use Rattle.board.specs.Mode.{Ruling, modeRuling}
+use Rattle.board.specs.Mode.{Ruling, modeRuling, outcomeOf}
+use Rattle.board.specs.declared.mode.Ruled.{Ruled}
 use Rattle.board.specs.Cut.{Did, part}
-use Rattle.board.specs.Replay.{Made, Rules, World, perform}
+use Rattle.board.specs.Replay.{Made, Rules, World, wrote, perform}
 use Rattle.board.specs.declared.call.Told.{Told}
 use Rattle.board.specs.declared.call.Told.the-variants as told
 
@@ -309,6 +310,17 @@ pub record Gives (d : Did Reply (World Board)) (reply : Reply) (board : Board) (
 -- the same of a call that takes no log: whatever the log, it leaves it
 abbrev pub Leaves : Call → Board → Reply → Board → Type 0
 Leaves c b reply board = (log : List ℕ) → Gives (does c (world b log)) reply board log
+
+-- what a mode call does by its number, 1 play, 2 pause, 3 resume, 4 stop; no mode allows any other
+unfoldable pub modeDoes : ℕ → ℤ → World Board → Did Reply (World Board)
+modeDoes k track w =
+    let m = modeRuling (w .board) (length (w .log)) track k in
+    record { answer = answered (m .answer); left = wrote gridstep (madeBy m) w }
+
+-- what it comes to on a board's parts, and the place of the one track that it may change
+abbrev pub Judges : ℕ → ℤ → Board → List ℕ → Ruled → List ℕ → Type 0
+Judges k track b log r log′ =
+    Gives (modeDoes k track (world b log)) (answered (r .answer)) (outcomeOf b r .board) log′ × (r .at < trackCount)
 
 -- ---- What a call tells, as the code has it, and 01's reply.
 
