@@ -1,21 +1,20 @@
 -- What every call does with a board and a log: the answers by 01's numbers, and the board as a machine of lists of calls.
-use Prim.Native.Nat.{ℕ, _+_}
+use Prim.Native.Nat.{ℕ, _+_, _<_}
 use mathlib.Core.Bool.{Bool, true, false, cond}
 use mathlib.Core.Path.{_≡_}
 use mathlib.Core.List.{List, []}
 use mathlib.Core.Option.{Option, none, some}
 use lib.ListN.{length}
-use lib.IntN.{pos}
+use lib.IntN.{ℤ, pos}
 use lib.Dec.{leb}
 use Rattle.track.specs.declared.Track.{Track}
-use Rattle.track.specs.declared.Ticks.{Ticks}
 use Rattle.track.specs.declared.setup.Answer.{Answer}
 use Rattle.track.specs.declared.setup.Answer.the-variants as answer
 use Rattle.track.specs.declared.number.Natural.{Natural}
 use Rattle.track.specs.declared.number.Natural.the-variants as natural
 use Rattle.track.specs.Rule.{clockEnd}
 use Rattle.track.specs.Grid.{PLAY, PAUSE, RESUME, STOP}
-use Rattle.track.specs.Number.{naturalOf}
+use Rattle.track.specs.Number.{naturalOf, valueOf}
 use Rattle.board.specs.declared.Board.{Board}
 use Rattle.board.specs.declared.log.Record.{Record}
 use Rattle.board.specs.declared.points.Point.{Point}
@@ -31,15 +30,69 @@ use Rattle.board.specs.declared.call.Advanced.the-variants as advanced
 use Rattle.board.specs.declared.call.Call.{Call}
 use Rattle.board.specs.declared.call.Call.the-variants as call
 use Rattle.board.specs.Log.{recordWidth, recordBytes, capacity}
+use Rattle.board.specs.Points.{trackCount}
 use Rattle.board.specs.Board.{unbrokenTest}
 use Rattle.board.specs.Setup.{boardWith, setUp, addTrack, setPoint, dropPoint, clearBoard}
 use Rattle.board.specs.Query.{clockOf, trackOf, pointIn, countIn}
 use Rattle.board.specs.Tick.{tickOf}
-use Rattle.board.specs.Mode.{Ruling, modeRuling}
+use Rattle.board.specs.Mode.{Ruling, modeRuling, outcomeOf}
+use Rattle.board.specs.declared.mode.Ruled.{Ruled}
 use Rattle.board.specs.Cut.{Did, part}
-use Rattle.board.specs.Replay.{Made, Rules, World, perform}
+use Rattle.board.specs.Replay.{Made, Rules, World, wrote, perform}
 use Rattle.board.specs.declared.call.Told.{Told}
 use Rattle.board.specs.declared.call.Told.the-variants as told
+
+-- Every field of a track, as this paper has it: positions signed, and the sixteen actions.
+pub record TrackValues : Type 0 where
+  pub min : ℤ
+  pub max : ℤ
+  pub start : ℤ
+  pub end : ℤ
+  pub position : ℤ
+  pub passes : ℕ
+  pub loops : ℕ
+  pub mode : ℕ
+  pub direction : ℕ
+  pub repeat : ℕ
+  pub due : ℕ
+  pub actions : List ℕ
+
+abbrev pub trackValues : Track → TrackValues
+trackValues t =
+    record {
+      min = valueOf (t .min);
+      max = valueOf (t .max);
+      start = valueOf (t .start);
+      end = valueOf (t .end);
+      position = valueOf (t .position);
+      passes = t .passes .0;
+      loops = t .loops;
+      mode = t .mode;
+      direction = t .direction;
+      repeat = t .repeat;
+      due = t .due;
+      actions = t .actions;
+    }
+
+-- A point, as this paper has it: its position signed, its wait flag 0 or 1.
+pub record PointValues : Type 0 where
+  pub track : ℕ
+  pub position : ℤ
+  pub event : ℕ
+  pub wait : ℕ
+  pub command : ℕ
+  pub target : ℕ
+
+abbrev pub pointValues : Point → PointValues
+pointValues p =
+    record {
+      track = p .track;
+      position = valueOf (p .position);
+      event = p .event;
+      wait = p .wait;
+      command = p .command;
+      target = p .target;
+    }
 
 -- An answer, by this paper's numbers and values: accepted, a refusal's number, an advance's reason with the ticks taken, or
 -- what was asked.
@@ -49,9 +102,9 @@ pub data Reply : Type 0 where
   done : ℕ → Reply
   logFull : ℕ → Reply
   clockEnded : ℕ → Reply
-  clockIs : Ticks → ℕ → Reply
-  trackIs : Track → Reply
-  pointIs : Point → Reply
+  clockIs : ℕ → ℕ → Reply
+  trackIs : TrackValues → Reply
+  pointIs : PointValues → Reply
   countIs : ℕ → Reply
 
 abbrev pub answered : Answer → Reply
@@ -59,15 +112,15 @@ answered answer.Accepted = accepted
 answered (answer.Refused n) = refused n
 
 abbrev pub clockSaid : ClockRead → Reply
-clockSaid (clock.Clock c held) = clockIs c held
+clockSaid (clock.Clock c held) = clockIs (c .0) held
 clockSaid (clock.Refused n) = refused n
 
 abbrev pub trackSaid : Answer → Track → Reply
-trackSaid answer.Accepted t = trackIs t
+trackSaid answer.Accepted t = trackIs (trackValues t)
 trackSaid (answer.Refused n) t = refused n
 
 abbrev pub pointSaid : PointRead → Reply
-pointSaid (point.Found p) = pointIs p
+pointSaid (point.Found p) = pointIs (pointValues p)
 pointSaid (point.Refused n) = refused n
 
 abbrev pub countSaid : CountRead → Reply
@@ -276,6 +329,21 @@ pub record Gives (d : Did Reply (World Board)) (reply : Reply) (board : Board) (
   pub board-is : board ≡ d .left .board
   pub log-is : log ≡ d .left .log
 
+-- the same of a call that takes no log: whatever the log, it leaves it
+abbrev pub Leaves : Call → Board → Reply → Board → Type 0
+Leaves c b reply board = (log : List ℕ) → Gives (does c (world b log)) reply board log
+
+-- what a mode call does by its number, 1 play, 2 pause, 3 resume, 4 stop; no mode allows any other
+unfoldable pub modeDoes : ℕ → ℤ → World Board → Did Reply (World Board)
+modeDoes k track w =
+    let m = modeRuling (w .board) (length (w .log)) track k in
+    record { answer = answered (m .answer); left = wrote gridstep (madeBy m) w }
+
+-- what it comes to on a board's parts, and the place of the one track that it may change
+abbrev pub Judges : ℕ → ℤ → Board → List ℕ → Ruled → List ℕ → Type 0
+Judges k track b log r log′ =
+    Gives (modeDoes k track (world b log)) (answered (r .answer)) (outcomeOf b r .board) log′ × (r .at < trackCount)
+
 -- ---- What a call tells, as the code has it, and 01's reply.
 
 abbrev pub replyOf : Told → Track → Reply
@@ -284,7 +352,7 @@ replyOf (told.Refused n) t = refused n
 replyOf (told.Done n) t = done (n .0)
 replyOf (told.LogFull n) t = logFull (n .0)
 replyOf (told.ClockEnd n) t = clockEnded (n .0)
-replyOf (told.Clock c held) t = clockIs c held
-replyOf told.Track t = trackIs t
-replyOf (told.Point p) t = pointIs p
+replyOf (told.Clock c held) t = clockIs (c .0) held
+replyOf told.Track t = trackIs (trackValues t)
+replyOf (told.Point p) t = pointIs (pointValues p)
 replyOf (told.Count n) t = countIs n

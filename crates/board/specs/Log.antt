@@ -1,9 +1,12 @@
 -- The log: numbers as bytes, a part of a list written over, and the record (01, "Log record"): 16 bytes, lowest byte first.
 use mathlib.Core.List.{List, [], _∷_, _++_}
-use Prim.Native.Nat.{ℕ, zero, suc, _+_, _*_, _/_, _%_}
+use Prim.Native.Nat.{ℕ, zero, suc, _+_, _-_, _*_, _/_, _%_}
 use lib.ListN.{length, take, drop, getD}
 use mathlib.Core.Bool.{Bool, cond, _&&_}
-use lib.Dec.{eqb, leb}
+use lib.Dec.{eqb, ltb, leb}
+use lib.IntN.{ℤ, pos, negsuc}
+use Rattle.track.specs.declared.Coordinate.{Coordinate}
+use Rattle.track.specs.Number.{valueOf}
 use Rattle.track.specs.declared.setup.Answer.{Answer}
 use Rattle.track.specs.declared.setup.Answer.the-variants.{Accepted, Refused}
 use Rattle.board.specs.declared.log.Record.{Record}
@@ -36,39 +39,82 @@ detailUnit = 16
 unfoldable pub kindTest : ℕ → Bool
 kindTest k = leb 1 k && leb k 3
 
--- a position in two's complement of 4 bytes, from its coordinate (position + 1,000,000), and back
-unfoldable pub twosOf : ℕ → ℕ
-twosOf c = (c + 4293967296) % 4294967296
+-- a number in two's complement of 4 bytes, and the number that a word of 4 bytes is in it: from 2,147,483,648 on a negative one
+unfoldable pub twosOf : ℤ → ℕ
+twosOf (pos k) = k
+twosOf (negsuc k) = 4294967296 - suc k
 
-unfoldable pub coordinateFrom : ℕ → ℕ
-coordinateFrom w = (w + 1000000) % 4294967296
+unfoldable pub signedOf : ℕ → ℤ
+signedOf w = cond (ltb w 2147483648) (pos w) (negsuc (4294967295 - w))
+
+-- the position of a record, any of 4 bytes, by its coordinate, which wraps: from 2,148,483,648 on a negative one
+unfoldable pub positionOf : Coordinate → ℤ
+positionOf c = cond (ltb (c .0) 2148483648) (valueOf c) (negsuc (4295967295 - c .0))
+
+-- A record, as this paper has it: its position signed.
+pub record RecordValues : Type 0 where
+  pub clock : ℕ
+  pub track : ℕ
+  pub kind : ℕ
+  pub event : ℕ
+  pub detail : ℕ
+  pub position : ℤ
+  pub passes : ℕ
+
+abbrev pub recordValues : Record → RecordValues
+recordValues r =
+    record {
+      clock = r .clock .0;
+      track = r .track;
+      kind = r .kind;
+      event = r .event;
+      detail = r .detail;
+      position = positionOf (r .position);
+      passes = r .passes .0;
+    }
 
 -- clock (4), track (1), kind (1), event (1), detail (1), position (4, two's complement), passes (4)
+unfoldable pub bytesOf : RecordValues → List ℕ
+bytesOf v =
+    le 4 (v .clock) ++ ((v .track ∷ v .kind ∷ v .event ∷ v .detail ∷ []) ++ (le 4 (twosOf (v .position)) ++ le 4 (v .passes)))
+
 unfoldable pub recordBytes : Record → List ℕ
-recordBytes r =
-    le 4 (r .clock .0)
-    ++ ((r .track ∷ r .kind ∷ r .event ∷ r .detail ∷ []) ++ (le 4 (twosOf (r .position .0)) ++ le 4 (r .passes .0)))
+recordBytes r = bytesOf (recordValues r)
 
 -- the record that 16 bytes spell
-unfoldable pub spelled : List ℕ → Record
+unfoldable pub spelled : List ℕ → RecordValues
 spelled s =
     record {
-      clock = record { 0 = fromLe (take 4 s) };
+      clock = fromLe (take 4 s);
       track = getD s 4 0;
       kind = getD s 5 0;
       event = getD s 6 0;
       detail = getD s 7 0;
-      position = record { 0 = coordinateFrom (fromLe (take 4 (drop 8 s))) };
-      passes = record { 0 = fromLe (take 4 (drop 12 s)) };
+      position = signedOf (fromLe (take 4 (drop 8 s)));
+      passes = fromLe (take 4 (drop 12 s));
     }
 
+-- An answer to packing or unpacking, by this paper's numbers and values: packed, a record, or a refusal's number.
+pub data LogReply : Type 0 where
+  packed : LogReply
+  recordIs : RecordValues → LogReply
+  refused : ℕ → LogReply
+
+abbrev pub packSaid : Answer → LogReply
+packSaid Accepted = packed
+packSaid (Refused n) = refused n
+
+abbrev pub unpackSaid : Unpacked → LogReply
+unpackSaid (unpacked.Held r) = recordIs (recordValues r)
+unpackSaid (unpacked.Refused n) = refused n
+
 -- Unpacking a slice that isn't 16 bytes long, or has another kind, is refused 3.
-unfoldable pub unpackOf : List ℕ → Unpacked
-unpackOf s = cond (eqb (length s) recordWidth && kindTest (getD s 5 0)) (unpacked.Held (spelled s)) (unpacked.Refused 3)
+unfoldable pub unpackOf : List ℕ → LogReply
+unpackOf s = cond (eqb (length s) recordWidth && kindTest (getD s 5 0)) (recordIs (spelled s)) (refused 3)
 
 -- Packing at a place: refused 3 for another kind, or where 16 bytes do not fit there; else every other byte stays.
-unfoldable pub packAnswer : Record → List ℕ → ℕ → Answer
-packAnswer r s at = cond (kindTest (r .kind) && leb (at + recordWidth) (length s)) Accepted (Refused 3)
+unfoldable pub packAnswer : Record → List ℕ → ℕ → LogReply
+packAnswer r s at = cond (kindTest (r .kind) && leb (at + recordWidth) (length s)) packed (refused 3)
 
 unfoldable pub packBytes : Record → List ℕ → ℕ → List ℕ
 packBytes r s at = cond (kindTest (r .kind) && leb (at + recordWidth) (length s)) (writeAt s at (recordBytes r)) s

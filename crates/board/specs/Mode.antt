@@ -1,5 +1,5 @@
 -- The four mode calls (01, "Track", "Other calls", "Turned down"), as far as the log's length decides them.
-use Prim.Native.Nat.{ℕ, _+_, _*_}
+use Prim.Native.Nat.{ℕ, _+_}
 use mathlib.Core.Bool.{cond}
 use mathlib.Core.List.{List, []}
 use lib.ListN.{length, set}
@@ -14,10 +14,9 @@ use Rattle.track.specs.Grid.{gridOf}
 use Rattle.track.specs.Number.{onNatural}
 use Rattle.board.specs.declared.Board.{Board}
 use Rattle.board.specs.declared.log.Record.{Record}
-use Rattle.board.specs.Log.{recordWidth, logBytes, writeAt, capacity}
+use Rattle.board.specs.Log.{capacity}
 use Rattle.board.specs.declared.setup.Outcome.{Outcome}
 use Rattle.board.specs.declared.mode.Ruled.{Ruled}
-use mathlib.Core.Path.{_≡_}
 use Rattle.board.specs.Board.{trackAt, unbrokenTest, foundIn}
 use Rattle.board.specs.Setup.{boardWith}
 use Rattle.board.specs.Tick.{changeRecords}
@@ -64,17 +63,7 @@ modeRuling b n track call =
     (declined 7 b))
     (declined 3 b)
 
--- an outcome, and the log before and after it, follow a ruling: the records go behind the held ones, and held grows by them
-pub record Follows (m : Ruling) (o : Outcome) (before after : List ℕ) : Type 0 where
-  pub answer-is : o .answer ≡ m .answer
-  pub board-is : o .board ≡ boardWith (m .board) (m .board .tracks) (m .board .present) (m .board .points) (m .board .held + length (m .records))
-  pub log-is : after ≡ writeAt before (m .board .held * recordWidth) (logBytes (m .records))
-
 -- the outcome on b of what a call comes to: one track put in its place, and the number of records held
 abbrev pub outcomeOf : Board → Ruled → Outcome
 outcomeOf b r =
     record { answer = r .answer; board = boardWith b (set (b .tracks) (r .at) (r .track)) (b .present) (b .points) (r .held) }
-
--- r is what the mode call by its number leaves of the board b and a log
-abbrev pub Judged : Board → ℤ → ℕ → List ℕ → Ruled → List ℕ → Type 0
-Judged b track call log r log′ = Follows (modeRuling b (length log) track call) (outcomeOf b r) log log′

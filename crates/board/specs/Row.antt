@@ -6,13 +6,12 @@ use mathlib.Core.Option.{Option, none, some}
 use lib.Dec.{eqb}
 use lib.IntN.{ℤ, pos, negsuc}
 use lib.ListN.{length, drop, getD, replicate}
-use Rattle.track.specs.declared.Track.{Track}
 use Rattle.track.specs.declared.setup.Change.the-variants as change
-use Rattle.board.specs.declared.points.Point.{Point}
+use Rattle.track.specs.Number.{coordinateAt}
 use Rattle.board.specs.declared.Board.{Board}
 use Rattle.board.specs.declared.call.Call.{Call}
 use Rattle.board.specs.declared.call.Call.the-variants as call
-use Rattle.board.specs.Call.{Reply, accepted, refused, done, logFull, clockEnded, clockIs, trackIs, pointIs, countIs, does}
+use Rattle.board.specs.Call.{TrackValues, PointValues, Reply, accepted, refused, done, logFull, clockEnded, clockIs, trackIs, pointIs, countIs, does}
 use Rattle.board.specs.Cut.{All, Did}
 use Rattle.board.specs.Replay.{World}
 use Rattle.board.specs.declared.row.Coded.{Coded}
@@ -86,14 +85,15 @@ replyWidth = 28
 abbrev pub padded : List ℕ → List ℕ
 padded xs = xs ++ replicate (replyWidth - length xs) 0
 
-abbrev pub trackNumbers : Track → List ℕ
+-- of a track and a point, with each position n as n + 1,000,000
+abbrev pub trackNumbers : TrackValues → List ℕ
 trackNumbers t =
-    t .min .0
-    ∷ t .max .0
-    ∷ t .start .0
-    ∷ t .end .0
-    ∷ t .position .0
-    ∷ t .passes .0
+    coordinateAt (t .min) .0
+    ∷ coordinateAt (t .max) .0
+    ∷ coordinateAt (t .start) .0
+    ∷ coordinateAt (t .end) .0
+    ∷ coordinateAt (t .position) .0
+    ∷ t .passes
     ∷ t .loops
     ∷ t .mode
     ∷ t .direction
@@ -101,8 +101,8 @@ trackNumbers t =
     ∷ t .due
     ∷ t .actions
 
-abbrev pub pointNumbers : Point → List ℕ
-pointNumbers p = p .track ∷ p .position .0 ∷ p .event ∷ p .wait ∷ p .command ∷ p .target ∷ []
+abbrev pub pointNumbers : PointValues → List ℕ
+pointNumbers p = p .track ∷ coordinateAt (p .position) .0 ∷ p .event ∷ p .wait ∷ p .command ∷ p .target ∷ []
 
 -- kinds: 0 accepted, 1 refused, 2 Done, 3 LogFull, 4 ClockEnd, 5 clock and held, 6 a track, 7 a point, 8 a count
 abbrev pub numbersOf : Reply → List ℕ
@@ -111,7 +111,7 @@ numbersOf (refused n) = padded (1 ∷ n ∷ [])
 numbersOf (done n) = padded (2 ∷ n ∷ [])
 numbersOf (logFull n) = padded (3 ∷ n ∷ [])
 numbersOf (clockEnded n) = padded (4 ∷ n ∷ [])
-numbersOf (clockIs c held) = padded (5 ∷ c .0 ∷ held ∷ [])
+numbersOf (clockIs c held) = padded (5 ∷ c ∷ held ∷ [])
 numbersOf (trackIs t) = padded (6 ∷ trackNumbers t)
 numbersOf (pointIs p) = padded (7 ∷ pointNumbers p)
 numbersOf (countIs n) = padded (8 ∷ n ∷ [])

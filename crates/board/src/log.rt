@@ -7,7 +7,8 @@ ghost use mathlib.Core.Path.{_≡_};
 ghost use mathlib.Core.List.{_∷_, []};
 ghost use Prim.Native.Nat.{_+_, _<_, _≤_};
 ghost use lib.ListN.{length, take, drop};
-ghost use Rattle.board.specs.Log.{writeAt, le, fromLe, kindTest, twosOf, coordinateFrom, recordBytes, unpackOf, packAnswer, packBytes, recordWidth};
+ghost use Rattle.board.specs.Log.{writeAt, le, fromLe, kindTest, twosOf, signedOf, positionOf, recordBytes, recordWidth};
+ghost use Rattle.board.specs.Log.{packSaid, packAnswer, packBytes, unpackSaid, unpackOf};
 
 pub struct Record {
     // The clock after the tick, or as it is at a mode call.
@@ -67,7 +68,7 @@ fn put_word(log: &mut [u8], at: usize, x: u32)
 
 // The position of a coordinate in two's complement.
 fn twos(c: Coordinate) -> u32
-    ensures { λ r. ⌜ r ≡ twosOf (c .0) ⌝ }
+    ensures { λ r. ⌜ r ≡ twosOf (positionOf c) ⌝ }
 {
     let k = c.0;
     if k < 1000000 {
@@ -79,7 +80,7 @@ fn twos(c: Coordinate) -> u32
 
 // The coordinate of a position in two's complement.
 fn coordinate_of(w: u32) -> Coordinate
-    ensures { λ r. ⌜ r .0 ≡ coordinateFrom w ⌝ }
+    ensures { λ r. ⌜ positionOf r ≡ signedOf w ⌝ }
 {
     if w < 4293967296 {
         Coordinate(w + 1000000)
@@ -115,7 +116,7 @@ fn kind_known(kind: u8) -> bool
 
 // Packs a record at a place: refused 3 for another kind, or where its bytes do not fit there.
 pub fn pack(r: Record, bytes: &mut [u8], at: usize) -> Answer
-    ensures answer { λ a. ⌜ a ≡ packAnswer r (now (bytes .entry)) at ⌝ }
+    ensures answer { λ a. ⌜ packSaid a ≡ packAnswer r (now (bytes .entry)) at ⌝ }
     ensures bytes { λ a. ⌜ now (bytes .exit) ≡ packBytes r (now (bytes .entry)) at ⌝ }
 {
     let kind = r.kind;
@@ -147,7 +148,7 @@ fn word(s: &[u8], at: usize) -> u32
 
 // Unpacks a record: refused 3 for another length than 16, or another kind.
 pub fn unpack(s: &[u8]) -> Unpacked
-    ensures { λ r. ⌜ r ≡ unpackOf (now (s .entry)) ⌝ }
+    ensures { λ r. ⌜ unpackSaid r ≡ unpackOf (now (s .entry)) ⌝ }
 {
     if s.len() != Record::WIDTH {
         return Unpacked::Refused(Answer::VALUE);

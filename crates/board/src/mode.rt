@@ -12,13 +12,10 @@ use track::grid::grid;
 use track::number::Natural;
 use track::setup::Answer;
 ghost use mathlib.Core.Path.{_≡_};
-ghost use Prim.Native.Nat.{_<_};
 ghost use lib.ListN.{length};
 ghost use Rattle.track.specs.declared.setup.Answer.the-variants as answer;
-ghost use Rattle.board.specs.Points.{trackCount};
 ghost use Rattle.board.specs.Board.{boardOf};
-ghost use Rattle.board.specs.Mode.{Follows, modeRuling, Judged};
-ghost use Rattle.board.specs.Call.{Gives, does, world, answered};
+ghost use Rattle.board.specs.Call.{Gives, does, modeDoes, Judges, world, answered};
 ghost use Rattle.board.specs.declared.call.Call.the-variants.{Play, Pause, Resume, Stop};
 
 // What a mode call comes to: the answer, the one track that it may change, and the number of records held.
@@ -54,9 +51,8 @@ pub fn judge<'a>(
     call: u8,
     log: &mut [u8],
 ) -> Ruled
-    ensures follows { λ r. ⌜ Judged (boardOf tracks present (now (keys .entry)) (now (infos .entry)) n (clock .0) held) track call
+    ensures { λ r. ⌜ Judges call track (boardOf tracks present (now (keys .entry)) (now (infos .entry)) n (clock .0) held)
         (now (log .entry)) r (now (log .exit)) ⌝ }
-    ensures inside { λ r. ⌜ r .at < trackCount ⌝ }
 {
     let first = tracks[0];
     if !unbroken(tracks, present, clock, keys, infos, n) {
@@ -100,8 +96,8 @@ pub fn judge<'a>(
 }
 
 // The call on a board.
-pub fn mode_call(b: Board, track: i64, call: u8, log: &mut [u8]) -> Outcome
-    ensures { λ r. ⌜ Follows (modeRuling b (length (now (log .entry))) track call) r (now (log .entry)) (now (log .exit)) ⌝ }
+fn mode_call(b: Board, track: i64, call: u8, log: &mut [u8]) -> Outcome
+    ensures { λ r. ⌜ Gives (modeDoes call track (world b (now (log .entry)))) (answered (r .answer)) (r .board) (now (log .exit)) ⌝ }
 {
     let tracks = b.tracks;
     let r = judge(

@@ -13,7 +13,8 @@ use track::number::clamped;
 use track::setup::Answer;
 ghost use mathlib.Core.Path.{_≡_};
 ghost use Prim.Native.Nat.{_-_};
-ghost use Rattle.board.specs.Query.{clockOf, trackOf, pointIn, countIn};
+ghost use Rattle.board.specs.Call.{Leaves, clockSaid, trackSaid, pointSaid, countSaid};
+ghost use Rattle.board.specs.declared.call.Call.the-variants as call;
 
 // Clock and held.
 pub enum ClockRead {
@@ -50,7 +51,7 @@ fn before(n: u32) -> u32
 impl Board {
     // The clock, and the number of records held.
     pub fn clock_and_held(self) -> ClockRead
-        ensures { λ r. ⌜ r ≡ clockOf self ⌝ }
+        ensures { λ r. ⌜ Leaves call.Clock self (clockSaid r) self ⌝ }
     {
         let tracks = self.tracks;
         if !unbroken(
@@ -69,7 +70,7 @@ impl Board {
 
     // A track, field by field.
     pub fn track(self, track: i64) -> TrackRead
-        ensures { λ r. ⌜ r ≡ trackOf self track ⌝ }
+        ensures { λ r. ⌜ Leaves (call.Track track) self (trackSaid (r .answer) (r .track)) self ⌝ }
     {
         let tracks = self.tracks;
         let none = Track::new(Coordinate(0), Coordinate(0));
@@ -102,7 +103,7 @@ impl Board {
 
     // The point of a track at a position.
     pub fn point(self, track: i64, position: i64) -> PointRead
-        ensures { λ r. ⌜ r ≡ pointIn self track position ⌝ }
+        ensures { λ r. ⌜ Leaves (call.Point track position) self (pointSaid r) self ⌝ }
     {
         let tracks = self.tracks;
         if !unbroken(
@@ -132,7 +133,7 @@ impl Board {
 
     // How many points of a track stand from a position to another.
     pub fn point_count(self, track: i64, from: i64, to: i64) -> CountRead
-        ensures { λ r. ⌜ r ≡ countIn self track from to ⌝ }
+        ensures { λ r. ⌜ Leaves (call.PointCount track from to) self (countSaid r) self ⌝ }
     {
         let tracks = self.tracks;
         if !unbroken(

@@ -17,7 +17,7 @@ ghost use lib.ListN.{length, drop, take};
 ghost use Rattle.board.specs.Row.{codedAs, callOf, callAt, padded, trackNumbers, pointNumbers, numbersOf, rowDoes, RowDone, callWidth, replyWidth};
 ghost use mathlib.Core.List.{_∷_, [], _++_};
 ghost use Rattle.board.specs.Log.{writeAt};
-ghost use Rattle.board.specs.Call.{replyOf, Gives, world, refused};
+ghost use Rattle.board.specs.Call.{trackValues, pointValues, replyOf, Gives, world, refused};
 
 // Numbers of a call's row.
 pub const CALL_WIDTH: usize = 7;
@@ -97,7 +97,7 @@ fn short_row(kind: u64, a: u64, b: u64) -> [u64; REPLY_WIDTH]
 }
 
 fn point_row(p: Point) -> [u64; REPLY_WIDTH]
-    ensures { λ r. ⌜ r ≡ padded (7 ∷ pointNumbers p) ⌝ }
+    ensures { λ r. ⌜ r ≡ padded (7 ∷ pointNumbers (pointValues p)) ⌝ }
 {
     let mut row = [0u64; REPLY_WIDTH];
     row[0] = 7;
@@ -112,7 +112,7 @@ fn point_row(p: Point) -> [u64; REPLY_WIDTH]
 
 // A track's numbers but for its action cells.
 fn track_head(t: Track) -> [u64; REPLY_WIDTH]
-    ensures { λ r. ⌜ r ≡ padded (6 ∷ take 11 (trackNumbers t)) ⌝ }
+    ensures { λ r. ⌜ r ≡ padded (6 ∷ take 11 (trackNumbers (trackValues t))) ⌝ }
 {
     let mut row = [0u64; REPLY_WIDTH];
     row[0] = 6;
@@ -144,7 +144,7 @@ fn with_cells(head: [u64; REPLY_WIDTH], cells: [u8; Track::CELLS]) -> [u64; REPL
 }
 
 fn track_row(t: Track) -> [u64; REPLY_WIDTH]
-    ensures { λ r. ⌜ r ≡ padded (6 ∷ trackNumbers t) ⌝ }
+    ensures { λ r. ⌜ r ≡ padded (6 ∷ trackNumbers (trackValues t)) ⌝ }
 {
     let cells = t.actions;
     with_cells(track_head(t), cells)

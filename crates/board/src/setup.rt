@@ -17,7 +17,9 @@ use track::setup::Change;
 use track::setup::settled;
 ghost use mathlib.Core.Path.{_≡_};
 ghost use Prim.Native.Nat.{_<_};
-ghost use Rattle.board.specs.Setup.{refused, accepted, setUp, addTrack, drawnFrom, setPoint, dropPoint, clearBoard};
+ghost use Rattle.board.specs.Setup.{refused, accepted, drawnFrom};
+ghost use Rattle.board.specs.Call.{Leaves, answered};
+ghost use Rattle.board.specs.declared.call.Call.the-variants as call;
 
 // The answer to a call, and the board after it.
 pub struct Outcome {
@@ -96,7 +98,7 @@ fn draw(
 impl Board {
     // A set-up change of a track: start, end, loops, repeat, direction, action or jump.
     pub fn set_up(self, track: i64, change: Change) -> Outcome
-        ensures { λ r. ⌜ r ≡ setUp self track change ⌝ }
+        ensures { λ r. ⌜ Leaves (call.SetUp track change) self (answered (r .answer)) (r .board) ⌝ }
     {
         let tracks = self.tracks;
         if !unbroken(
@@ -124,7 +126,7 @@ impl Board {
 
     // A new track.
     pub fn add_track(self, number: i64, min: i64, max: i64) -> Outcome
-        ensures { λ r. ⌜ r ≡ addTrack self number min max ⌝ }
+        ensures { λ r. ⌜ Leaves (call.AddTrack number min max) self (answered (r .answer)) (r .board) ⌝ }
     {
         let tracks = self.tracks;
         if !unbroken(
@@ -170,7 +172,7 @@ impl Board {
         command: i64,
         target: i64,
     ) -> Outcome
-        ensures { λ r. ⌜ r ≡ setPoint self track position event wait command target ⌝ }
+        ensures { λ r. ⌜ Leaves (call.SetPoint track position event wait command target) self (answered (r .answer)) (r .board) ⌝ }
     {
         let tracks = self.tracks;
         if !unbroken(
@@ -215,7 +217,7 @@ impl Board {
 
     // The point at a position is dropped.
     pub fn drop_point(self, track: i64, position: i64) -> Outcome
-        ensures { λ r. ⌜ r ≡ dropPoint self track position ⌝ }
+        ensures { λ r. ⌜ Leaves (call.DropPoint track position) self (answered (r .answer)) (r .board) ⌝ }
     {
         let tracks = self.tracks;
         if !unbroken(
@@ -253,7 +255,7 @@ impl Board {
 
     // Held becomes 0; the log's bytes stay.
     pub fn clear(self) -> Outcome
-        ensures { λ r. ⌜ r ≡ clearBoard self ⌝ }
+        ensures { λ r. ⌜ Leaves call.Clear self (answered (r .answer)) (r .board) ⌝ }
     {
         let tracks = self.tracks;
         if !unbroken(

@@ -3,14 +3,12 @@ use Prim.Native.Nat.{ℕ, zero, suc, _≤_, _<_}
 use mathlib.Core.Path.{_≡_}
 use mathlib.Core.List.{List, [], _∷_, _++_}
 use lib.ListN.{length, take, drop}
-use Rattle.board.specs.declared.log.Record.{Record}
-use Rattle.board.specs.declared.log.Unpacked.{Unpacked}
-use Rattle.board.specs.declared.log.Unpacked.the-variants as unpacked
-use Rattle.board.specs.Log.{recordWidth, unpackOf}
+use Rattle.board.specs.Log.{recordWidth, RecordValues, LogReply, unpackOf}
+use Rattle.board.specs.Log as log
 use Rattle.board.specs.Call.{Reply, accepted, refused, done, logFull, clockEnded, clockIs, trackIs, pointIs, countIs}
 use Rattle.script.specs.declared.output.Shown.{Shown}
 use Rattle.script.specs.Bytes.{lf, comma}
-use Rattle.script.specs.Text.{positionText, numberThen}
+use Rattle.script.specs.Text.{signed, numberThen}
 
 -- refused,line,number
 abbrev pub refusedLine : ℕ → ℕ → List ℕ
@@ -26,22 +24,23 @@ abbrev pub endLine : ℕ → ℕ → List ℕ
 endLine clock held = (101 ∷ 110 ∷ 100 ∷ comma ∷ []) ++ numberThen clock comma ++ numberThen held lf
 
 -- clock, track, kind, event, detail
-abbrev pub recordHead : Record → List ℕ
+abbrev pub recordHead : RecordValues → List ℕ
 recordHead r =
-    numberThen (r .clock .0) comma
+    numberThen (r .clock) comma
     ++ numberThen (r .track) comma
     ++ numberThen (r .kind) comma
     ++ numberThen (r .event) comma
     ++ numberThen (r .detail) comma
 
 -- and position, passes
-abbrev pub recordLine : Record → List ℕ
-recordLine r = recordHead r ++ (positionText (r .position) ++ (comma ∷ [])) ++ numberThen (r .passes .0) lf
+abbrev pub recordLine : RecordValues → List ℕ
+recordLine r = recordHead r ++ (signed (r .position) ++ (comma ∷ [])) ++ numberThen (r .passes) lf
 
 -- the line of 16 bytes of the log, if they are a record
-abbrev pub unpackedLine : Unpacked → List ℕ
-unpackedLine (unpacked.Held r) = recordLine r
-unpackedLine (unpacked.Refused n) = []
+abbrev pub unpackedLine : LogReply → List ℕ
+unpackedLine (log.recordIs r) = recordLine r
+unpackedLine (log.refused n) = []
+unpackedLine log.packed = []
 
 -- each of so many records, from these bytes of the log on
 abbrev pub recordLines : ℕ → List ℕ → List ℕ

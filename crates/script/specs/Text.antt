@@ -1,13 +1,11 @@
 -- Numbers in base ten, and what is written into a buffer.
-use Prim.Native.Nat.{ℕ, zero, suc, _+_, _-_, _/_, _%_, _≤_}
+use Prim.Native.Nat.{ℕ, zero, suc, _+_, _/_, _%_, _≤_}
 use mathlib.Core.Path.{_≡_}
 use mathlib.Core.Bool.{cond}
 use mathlib.Core.List.{List, [], _∷_, _++_}
 use lib.Dec.{ltb}
 use lib.IntN.{ℤ, pos, negsuc}
 use lib.ListN.{length, take, drop}
-use Rattle.track.specs.Number.{valueOf}
-use Rattle.track.specs.declared.Coordinate.{Coordinate}
 use Rattle.script.specs.declared.text.Digits.{Digits}
 use Rattle.script.specs.declared.text.Out.{Out}
 use Rattle.script.specs.Bytes.{minus, digitZero}
@@ -25,10 +23,6 @@ decimal n = digitsThen 20 n []
 abbrev pub signed : ℤ → List ℕ
 signed (pos n) = decimal n
 signed (negsuc n) = minus ∷ decimal (suc n)
-
--- a position; of four bytes, from 2,147,483,648 on it is negative (two's complement)
-abbrev pub positionText : Coordinate → List ℕ
-positionText c = cond (ltb (c .0) 2148483648) (signed (valueOf c)) (minus ∷ decimal (4295967296 - c .0))
 
 -- a number and the byte behind it
 abbrev pub numberThen : ℕ → ℕ → List ℕ

@@ -11,7 +11,7 @@ ghost use Rattle.track.specs.declared.Track.{Track};
 ghost use Rattle.board.specs.Call.{replyOf};
 ghost use Rattle.script.specs.Output.{refusedLine, shortLine, endLine, recordHead, recordLine, noteOf, unpackedLine, Shows};
 ghost use Rattle.script.specs.Text.{textOf};
-ghost use Rattle.board.specs.Log.{unpackOf};
+ghost use Rattle.board.specs.Log.{recordValues, unpackOf};
 
 pub fn refused_line(line: u64, number: u8) -> Out
     ensures { λ r. ⌜ textOf r ≡ refusedLine line number ⌝ }
@@ -46,7 +46,7 @@ pub fn end_line(clock: Ticks, held: u64) -> Out
 
 // A record's numbers but for its position and passes.
 fn record_head(r: Record) -> Out
-    ensures { λ o. ⌜ (textOf o ≡ recordHead r) × (o .length ≤ 105) ⌝ }
+    ensures { λ o. ⌜ (textOf o ≡ recordHead (recordValues r)) × (o .length ≤ 105) ⌝ }
 {
     let o = Out::new();
     let a = o.number(r.clock.0 as u64, b',');
@@ -57,7 +57,7 @@ fn record_head(r: Record) -> Out
 }
 
 pub fn record_line(r: Record) -> Out
-    ensures { λ o. ⌜ textOf o ≡ recordLine r ⌝ }
+    ensures { λ o. ⌜ textOf o ≡ recordLine (recordValues r) ⌝ }
 {
     let h = record_head(r);
     let p = r.position;

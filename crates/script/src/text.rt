@@ -4,7 +4,8 @@ ghost use mathlib.Core.Path.{_≡_};
 ghost use mathlib.Core.List.{[], _∷_, _++_};
 ghost use Prim.Native.Nat.{_+_, _-_, _≤_, _<_};
 ghost use lib.ListN.{length, drop};
-ghost use Rattle.script.specs.Text.{decimal, numberThen, positionText, textOf, IsDecimal, Adds, Wrote};
+ghost use Rattle.board.specs.Log.{positionOf};
+ghost use Rattle.script.specs.Text.{decimal, numberThen, signed, textOf, IsDecimal, Adds, Wrote};
 
 // The digits of a number, from a place of the array on.
 pub struct Digits {
@@ -96,7 +97,7 @@ impl Out {
     // The position of a coordinate, which wraps in four bytes, and a comma.
     pub(crate) fn position(self, c: Coordinate) -> Out
         requires { ⌜ self .length ≤ 138 ⌝ }
-        ensures { λ r. ⌜ Adds self (positionText c ++ (44 ∷ [])) 22 r ⌝ }
+        ensures { λ r. ⌜ Adds self (signed (positionOf c) ++ (44 ∷ [])) 22 r ⌝ }
     {
         let k = c.0 as u64;
         if k < 1000000 {

@@ -13,7 +13,7 @@ use mir.Facts.{toZ-ofZ}
 use Rattle.track.proofs.Signs.{sub-yes, sub-no}
 use Rattle.track.proofs.Tests.{both}
 use Rattle.track.specs.Rule.{coordinateLast}
-use Rattle.track.specs.Number.{naturalOf, coordinateOf, within, valueOf, clampedOf, onNatural, onPlace}
+use Rattle.track.specs.Number.{naturalOf, coordinateOf, coordinateAt, within, valueOf, clampedOf, onNatural, onPlace}
 use Rattle.track.specs.declared.Coordinate.{Coordinate}
 use Rattle.track.specs.declared.number.Natural.{Natural}
 use Rattle.track.specs.declared.number.Natural.the-variants as natural
@@ -49,7 +49,7 @@ natural-of k least most h l = simp (le-leb _ _ l, le-leb _ _ h)
 -- ---- coordinates and positions are inverse
 
 -- the position of the coordinate k, by its sign
-by-sign : (P : ℤ → Type 0) (k : ℕ) → (1000000 ≤ k → P (pos (k - 1000000))) → (k < 1000000 → P (negsuc (1000000 - suc k))) →
+pub by-sign : (P : ℤ → Type 0) (k : ℕ) → (1000000 ≤ k → P (pos (k - 1000000))) → (k < 1000000 → P (negsuc (1000000 - suc k))) →
     P (valueOf (record { 0 = k }))
 unfolding valueOf
 by-sign P k f g = at (ltb k 1000000) refl
@@ -65,6 +65,13 @@ coordinate-value c h =
     by-sign (λ (z : ℤ). coordinateOf z ≡ place.At c) (c .0)
     (λ l. simp (le-ltb 1000000 (c .0 - 1000000) (omega arith)) (ap (λ (k : ℕ). place.At (record { 0 = k })) (omega arith)))
     (λ l. simp (le-ltb 999999 (1000000 - suc (c .0)) (omega arith)) (ap (λ (k : ℕ). place.At (record { 0 = k })) (omega arith)))
+
+-- the same of any coordinate, where the position is taken for one
+pub coordinate-at : (c : Coordinate) → coordinateAt (valueOf c) ≡ c
+unfolding coordinateAt
+coordinate-at c =
+    by-sign (λ (z : ℤ). coordinateAt z ≡ c) (c .0)
+    (λ l. ap (λ (k : ℕ). record { 0 = k }) (omega arith)) (λ l. ap (λ (k : ℕ). record { 0 = k }) (omega arith))
 
 At? : Place → (Coordinate → Type 0) → Type 0
 At? (place.At c) P = P c

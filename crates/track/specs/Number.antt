@@ -28,6 +28,11 @@ within low high place.Outside = place.Outside
 unfoldable pub valueOf : Coordinate → ℤ
 valueOf c = pos (c .0) -ℤ pos 1000000
 
+-- and the coordinate of a position, n + 1,000,000, of any n from -1,000,000 on
+unfoldable pub coordinateAt : ℤ → Coordinate
+coordinateAt (pos k) = record { 0 = k + 1000000 }
+coordinateAt (negsuc k) = record { 0 = 1000000 - suc k }
+
 -- n brought into -1,000,001 to 1,000,001, counted from the lowest: a bound of a range of positions
 unfoldable pub clampedOf : ℤ → ℕ
 clampedOf (pos k) = cond (ltb 1000000 k) 2000002 (k + 1000001)

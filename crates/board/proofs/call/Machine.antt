@@ -1,15 +1,14 @@
 -- The board as a machine of lists of calls: it keeps what the theory of lists asks of its rules.
 use Prim.Native.Nat.{ℕ, zero, suc, _+_, _*_, _≤_, _<_}
-use mathlib.Core.Path.{_≡_, refl, sym, _∙_, ap, subst}
+use mathlib.Core.Path.{_≡_, refl, sym, ap}
 use mathlib.Core.Bool.{Bool, true, false, cond}
 use mathlib.Core.List.{List, [], _∷_, _++_}
 use mathlib.Core.Option.{Option, none, some, Option·none-ne-some}
-use native.Mathlib.Nat.{add-zero, add-assoc, mul-comm}
+use native.Mathlib.Nat.{add-zero, add-assoc}
 use native.Mathlib.Omega.{arith}
 use lib.Dec.{leb}
 use lib.IntN.{ℤ}
 use lib.ListN.{length}
-use lib.Seq.{sets}
 use borrow.Author.Tests.{leb-true, leb-false, le-leb}
 use Rattle.track.specs.declared.grid.Decision.{Decision}
 use Rattle.track.specs.declared.grid.Decision.the-variants as decision
@@ -18,6 +17,7 @@ use Rattle.track.specs.Rule.{WAITING, clockEnd, entered}
 use Rattle.track.specs.Grid.{PLAY, PAUSE, RESUME, STOP, gridOf}
 use Rattle.track.proofs.Tests.{cond-cases}
 use Rattle.board.specs.Log.{writeAt, recordWidth, recordBytes, logBytes, capacity}
+use Rattle.track.proofs.Arrivals.{entered-valid, entered-passes}
 use Rattle.board.specs.declared.Board.{Board}
 use Rattle.board.specs.declared.log.Record.{Record}
 use Rattle.board.specs.declared.setup.Outcome.{Outcome}
@@ -26,13 +26,11 @@ use Rattle.board.specs.declared.call.Call.the-variants as call
 use Rattle.board.specs.Board.{trackAt, isPresent, unbrokenTest, foundIn, Unbroken}
 use Rattle.board.specs.Setup.{boardWith, setUp, addTrack, setPoint, dropPoint, clearBoard}
 use Rattle.board.specs.Tick.{tickOf}
-use Rattle.board.specs.Mode.{Ruling, declined, callRecords, changing, changesTo, decided, modeRuling, Follows}
+use Rattle.board.specs.Mode.{Ruling, declined, callRecords, changing, changesTo, decided, modeRuling}
 use Rattle.board.specs.Cut.{ticks, Part, run, one}
 use Rattle.board.specs.Replay.{Made, World, flat, wrote, w-halt, w-bar, w-step, perform}
-use Rattle.board.specs.Call.{refused, answered, Stop, ends, fills, stoppedBy, Reason, stopped, refusedWith, takenIn, whyNot, ticked, grownBy}
-use Rattle.board.specs.Call.{haltOf, barOf, madeOf, madeBy, saysOf, makesOf, isAccepted, clearsOf, gridstep, countOf, does, world, Gives}
+use Rattle.board.specs.Call.{refused, answered, Stop, ends, fills, stoppedBy, Reason, stopped, refusedWith, takenIn, whyNot, ticked, grownBy, haltOf, barOf, madeOf, madeBy, saysOf, makesOf, isAccepted, clearsOf, gridstep, countOf, does, world, Gives}
 use Rattle.board.proofs.log.Records.{length-record}
-use Rattle.board.proofs.tick.Staging.{length-log, write-none}
 use Rattle.board.proofs.rules.Broken.{unbroken-of, unbroken-is}
 use Rattle.board.proofs.setup.Ways.{by-natural, set-up-ways, add-track-ways, set-point-ways, drop-point-ways, clear-ways}
 use Rattle.board.proofs.rules.Present.{found-in}
@@ -67,51 +65,6 @@ module _ (b : Board) (n : ℕ) (P : Ruling → Type 0) (declines : (k : ℕ) →
       go i h (decision.Goes mode) g =
           cond-cases P (leb (b .held + length (callRecords b i mode)) (capacity n)) (λ e. does i mode h g (leb-true _ _ e)) (λ _. declines 8)
       go i h decision.Refused g = declines 2
-
-module _ (b : Board) (log : List ℕ) where
-  -- storing the records of a mode call is writing them
-  ruling-log : (track : ℤ) (code : ℕ) →
-      let m = modeRuling b (length log) track code in
-      writeAt log (m .board .held * recordWidth) (logBytes (m .records)) ≡ sets log (recordWidth * m .board .held) (flat gridstep (m .records))
-  unfolding logBytes
-  ruling-log =
-      ruling-ways b (length log)
-      (λ (m : Ruling). writeAt log (m .board .held * recordWidth) (logBytes (m .records)) ≡ sets log (recordWidth * m .board .held) (flat gridstep (m .records)))
-      (λ k. write-none log (b .held * recordWidth))
-      (λ i mode _ _ fits.
-      let rs = callRecords b i mode in
-      let l = length-log rs in
-      sym (sets-write log (logBytes rs) (b .held * recordWidth) (omega arith))
-      ∙ (λ j. sets log (mul-comm (b .held) recordWidth j) (sym (flat-is rs) j)))
-
-  -- what follows a mode call's ruling is what the call gives
-  ruling-gives : (given : ℤ) (code : ℕ) (r : Outcome) (after : List ℕ) →
-      let m = modeRuling b (length log) given code in
-      Follows m r log after →
-      Gives (record { answer = answered (m .answer); left = wrote gridstep (madeBy m) (world b log) }) (answered (r .answer)) (r .board) after
-  ruling-gives given code r after f = record { answer-is = ap answered (f .answer-is); board-is = f .board-is; log-is = f .log-is ∙ ruling-log given code }
-
-  -- the same of each of the four, the number of the track as it was given
-  module _ (r : Outcome) (after : List ℕ) {given track : ℤ} (e : given ≡ track) where
-    pub play-gives : Follows (modeRuling b (length log) given PLAY) r log after →
-        Gives (does (call.Play track) (world b log)) (answered (r .answer)) (r .board) after
-    unfolding countOf saysOf makesOf
-    play-gives f = subst (λ (t : ℤ). Gives (does (call.Play t) (world b log)) (answered (r .answer)) (r .board) after) e (ruling-gives given PLAY r after f)
-
-    pub pause-gives : Follows (modeRuling b (length log) given PAUSE) r log after →
-        Gives (does (call.Pause track) (world b log)) (answered (r .answer)) (r .board) after
-    unfolding countOf saysOf makesOf
-    pause-gives f = subst (λ (t : ℤ). Gives (does (call.Pause t) (world b log)) (answered (r .answer)) (r .board) after) e (ruling-gives given PAUSE r after f)
-
-    pub resume-gives : Follows (modeRuling b (length log) given RESUME) r log after →
-        Gives (does (call.Resume track) (world b log)) (answered (r .answer)) (r .board) after
-    unfolding countOf saysOf makesOf
-    resume-gives f = subst (λ (t : ℤ). Gives (does (call.Resume t) (world b log)) (answered (r .answer)) (r .board) after) e (ruling-gives given RESUME r after f)
-
-    pub stop-gives : Follows (modeRuling b (length log) given STOP) r log after →
-        Gives (does (call.Stop track) (world b log)) (answered (r .answer)) (r .board) after
-    unfolding countOf saysOf makesOf
-    stop-gives f = subst (λ (t : ℤ). Gives (does (call.Stop t) (world b log)) (answered (r .answer)) (r .board) after) e (ruling-gives given STOP r after f)
 
 -- ---- records in the log
 

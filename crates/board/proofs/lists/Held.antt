@@ -4,8 +4,7 @@ use mathlib.Core.Path.{_≡_, refl}
 use mathlib.Core.List.{List}
 use lib.ListN.{length, take}
 use Rattle.board.specs.declared.call.Call.{Call}
-use Rattle.board.specs.declared.log.Unpacked.the-variants.{Held}
-use Rattle.board.specs.Log.{recordWidth, recordBytes, unpackOf}
+use Rattle.board.specs.Log.{recordWidth, recordBytes, unpackOf, recordIs, recordValues}
 use Rattle.board.specs.Board.{freshBoard}
 use Rattle.board.specs.Replay.{flat, clearedAt, Each}
 use Rattle.board.specs.Call.{gridstep}
@@ -24,6 +23,6 @@ held-since cs log =
     (h .held-is, h .bytes-are)
 
 -- each of them, unpacked from its bytes, is that record
-pub since-unpacks : (cs : List Call) (log : List ℕ) → Each (λ r. unpackOf (recordBytes r) ≡ Held r) (sinceClear cs log)
+pub since-unpacks : (cs : List Call) (log : List ℕ) → Each (λ r. unpackOf (recordBytes r) ≡ recordIs (recordValues r)) (sinceClear cs log)
 since-unpacks cs log =
-    each-drop (λ r. unpackOf (recordBytes r) ≡ Held r) (clearedAt gridstep (cutUp cs) (start log) 0) (replayed cs log .last .row) (row-unpacks cs log)
+    each-drop (λ r. unpackOf (recordBytes r) ≡ recordIs (recordValues r)) (clearedAt gridstep (cutUp cs) (start log) 0) (replayed cs log .last .row) (row-unpacks cs log)

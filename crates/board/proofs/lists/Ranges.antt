@@ -19,10 +19,9 @@ use Rattle.track.proofs.Tests.{cond-cases, both-is}
 use Rattle.track.proofs.Arrivals.{arrival-inside, step-valid}
 use Rattle.board.specs.declared.Board.{Board}
 use Rattle.board.specs.declared.log.Record.{Record}
-use Rattle.board.specs.declared.log.Unpacked.the-variants.{Held}
 use Rattle.board.specs.declared.call.Call.{Call}
 use Rattle.board.specs.declared.call.Call.the-variants as call
-use Rattle.board.specs.Log.{kindTest, recordBytes, unpackOf}
+use Rattle.board.specs.Log.{kindTest, recordBytes, unpackOf, recordIs, recordValues}
 use Rattle.board.specs.Points.{ascendingFrom, key, keysOf, infosOf, trackCount, waits, commandOf, targetOf}
 use Rattle.board.specs.Board.{eventMost, noTrack, trackAt, isPresent, Unbroken}
 use Rattle.board.specs.Tick.{members, Stage, staged, pointRecords, changeRecords, foundBy, stepRecords, reachedBy}
@@ -53,7 +52,7 @@ pub record Ranged (r : Record) : Type 0 where
   pub passes : r .passes .0 ≤ clockEnd
 
 -- such a record, unpacked from its bytes, is that record
-pub ranged-unpacks : (r : Record) → Ranged r → unpackOf (recordBytes r) ≡ Held r
+pub ranged-unpacks : (r : Record) → Ranged r → unpackOf (recordBytes r) ≡ recordIs (recordValues r)
 unfolding kindTest
 ranged-unpacks r h =
     unpack-pack r (both-is (le-leb _ _ (h .kind .0)) (le-leb _ _ (h .kind .1))) (omega (arith, h .clock)) (omega (arith, h .position)) (omega (arith, h .passes))
@@ -254,5 +253,5 @@ row-ranged cs log =
     (cutUp cs) (start log) (fresh-whole, tt) .1
 
 -- each record of the row, unpacked from its bytes, is that record
-pub row-unpacks : (cs : List Call) (log : List ℕ) → Each (λ r. unpackOf (recordBytes r) ≡ Held r) (replayed cs log .last .row)
+pub row-unpacks : (cs : List Call) (log : List ℕ) → Each (λ r. unpackOf (recordBytes r) ≡ recordIs (recordValues r)) (replayed cs log .last .row)
 row-unpacks cs log = each-follows ranged-unpacks (replayed cs log .last .row) (row-ranged cs log)

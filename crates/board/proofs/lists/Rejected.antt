@@ -10,24 +10,21 @@ use lib.IntN.{ℤ, pos}
 use lib.ListN.{replicate, take, set}
 use Rattle.track.specs.declared.Track.{Track}
 use Rattle.track.specs.declared.setup.Change.{Change}
-use Rattle.track.specs.declared.setup.Answer.the-variants.{Accepted}
 use Rattle.track.proofs.Tests.{both}
 use Rattle.track.specs.Rule.{clockEnd, PAUSED, entered}
-use Rattle.track.specs.Number.{valueOf}
+use Rattle.track.specs.Number.{valueOf, coordinateAt}
 use Rattle.board.specs.declared.Board.{Board}
 use Rattle.board.specs.declared.call.Call.{Call}
 use Rattle.board.specs.declared.call.Call.the-variants as call
-use Rattle.board.specs.declared.log.Record.{Record}
-use Rattle.board.specs.declared.log.Unpacked.{Unpacked}
-use Rattle.board.specs.declared.log.Unpacked.the-variants as unpacked
-use Rattle.board.specs.Log.{kindTest, writeAt, logBytes, unpackOf, packAnswer, packBytes}
+use Rattle.board.specs.Log.{kindTest, writeAt, logBytes, RecordValues, LogReply, packed, recordIs, unpackOf, packAnswer, packBytes}
+use Rattle.board.specs.Log as log
 use Rattle.board.specs.Points.{keysOf, infosOf, removeAt, removeRow, droppedFrom, countOf}
 use Rattle.board.specs.Board.{trackAt, freshBoard}
 use Rattle.board.specs.Setup.{boardWith, dropPoint, clearBoard}
 use Rattle.board.specs.Query.{clockOf, trackOf, pointIn, inRange, countIn}
 use Rattle.board.specs.Cut.{Did}
 use Rattle.board.specs.Replay.{World}
-use Rattle.board.specs.Call.{Reply, accepted, refused, done, logFull, clockEnded, clockIs, countIs, answered, does, world, Gives}
+use Rattle.board.specs.Call.{Reply, accepted, refused, done, logFull, clockEnded, clockIs, countIs, does, world, Gives, trackValues}
 use Rattle.board.specs.Row.{callWidth, replyWidth, trackNumbers, numbersOf, rowsOf}
 use Rattle.board.specs.Lists.{Executed}
 use Rattle.board.proofs.lists.Runs.{ran}
@@ -76,8 +73,8 @@ commandedFirst =
     (logBytes (printed 1 0 1 7 33 0 0 ∷ printed 1 1 2 30 18 4 0 ∷ []) ++ replicate 16 0)
 
 -- 16 bytes of a record of this kind
-abbrev bytesOf : ℕ → List ℕ
-bytesOf kind = 1 ∷ 0 ∷ 0 ∷ 0 ∷ 0 ∷ kind ∷ replicate 10 0
+abbrev sixteenBytes : ℕ → List ℕ
+sixteenBytes kind = 1 ∷ 0 ∷ 0 ∷ 0 ∷ 0 ∷ kind ∷ replicate 10 0
 
 -- ---- a wrong answer
 
@@ -116,7 +113,7 @@ Unless c w a P = (v : World Board) → (P (v .board) → ⊥) → Wrong (gives c
 -- every number of an answer, a board and a log
 abbrev numbers : List Track → List ℕ
 numbers [] = []
-numbers (t ∷ ts) = trackNumbers t ++ numbers ts
+numbers (t ∷ ts) = trackNumbers (trackValues t) ++ numbers ts
 
 abbrev allOf : Reply → Board → List ℕ → List ℕ
 allOf a b log =
@@ -236,9 +233,9 @@ modes =
 abbrev pub queries : List Claim
 queries =
     -- clock and held, held left out
-    gives call.Clock (played 96 (advance 10 ∷ [])) (clockIs (record { 0 = 10 }) 0) (played 96 (advance 10 ∷ []))
+    gives call.Clock (played 96 (advance 10 ∷ [])) (clockIs 10 0) (played 96 (advance 10 ∷ []))
     -- those of a broken board
-    ∷ gives call.Clock broken (clockIs (record { 0 = clockEnd + 1 }) 0) broken
+    ∷ gives call.Clock broken (clockIs (clockEnd + 1) 0) broken
     -- a track: 1 before a broken board's 3
     ∷ gives (call.Track (pos 0)) broken (refused 1) broken
     -- its fields as they were before it played
@@ -284,11 +281,11 @@ pub record Rejected : Type 0 where
   pub below-held : Unsaid (stop 0) (world (played 96 (advance 10 ∷ []) .board) (replicate 47 0)) accepted
   pub queries-refuted : Refuted queries
   -- unpacking a kind 4 or 0, or 15 bytes
-  pub kind-4-held : (r : Record) → unpackOf (bytesOf 4) ≡ unpacked.Held r → ⊥
-  pub kind-0-held : (r : Record) → unpackOf (bytesOf 0) ≡ unpacked.Held r → ⊥
-  pub short-held : (r : Record) → unpackOf (take 15 (bytesOf 1)) ≡ unpacked.Held r → ⊥
+  pub kind-4-held : (r : RecordValues) → unpackOf (sixteenBytes 4) ≡ recordIs r → ⊥
+  pub kind-0-held : (r : RecordValues) → unpackOf (sixteenBytes 0) ≡ recordIs r → ⊥
+  pub short-held : (r : RecordValues) → unpackOf (take 15 (sixteenBytes 1)) ≡ recordIs r → ⊥
   -- packing a kind 4, highest byte first, or over the byte behind
-  pub kind-4-packed : packAnswer (printed 1 0 4 7 0 2 0) (replicate 16 0) 0 ≡ Accepted → ⊥
+  pub kind-4-packed : packAnswer (printed 1 0 4 7 0 2 0) (replicate 16 0) 0 ≡ packed → ⊥
   pub highest-first : packBytes (printed 1 0 1 7 0 2 0) (replicate 16 0) 0 ≡ (0 ∷ 0 ∷ 0 ∷ 1 ∷ 0 ∷ 1 ∷ 7 ∷ 0 ∷ 0 ∷ 0 ∷ 0 ∷ 2 ∷ 0 ∷ 0 ∷ 0 ∷ 0 ∷ []) → ⊥
   pub byte-behind : packBytes (printed 1 0 1 7 0 2 0) (replicate 17 9) 0 ≡ take 16 logA ++ (0 ∷ []) → ⊥
   -- an encoded list: a row that is no call is 3
@@ -298,12 +295,13 @@ pub record Rejected : Type 0 where
       → Executed (replicate callWidth (pos 0) ++ (pos 1 ∷ pos 0 ∷ pos 0 ∷ pos 10 ∷ replicate 3 (pos 0))) [] (replicate (replyWidth + replyWidth) 0) freshBoard log replies → ⊥
 
 -- 1, or the number of the refusal
-abbrev heldIn : Unpacked → List ℕ
-heldIn (unpacked.Held r) = 1 ∷ []
-heldIn (unpacked.Refused n) = n ∷ []
+abbrev saidOf : LogReply → List ℕ
+saidOf packed = 1 ∷ []
+saidOf (recordIs r) = 1 ∷ []
+saidOf (log.refused n) = n ∷ []
 
 pub rejected : Rejected
-unfolding ran alike agrees noneAgrees dropPoint droppedFrom removeAt removeRow clearBoard clockOf trackOf pointIn inRange countIn countOf kindTest writeAt unpackOf packAnswer packBytes rowsOf
+unfolding ran alike agrees noneAgrees dropPoint droppedFrom removeAt removeRow clearBoard clockOf trackOf pointIn inRange countIn countOf kindTest writeAt unpackOf packAnswer packBytes rowsOf valueOf coordinateAt
 rejected =
     record {
       advances-refuted = refute advances refl;
@@ -323,10 +321,10 @@ rejected =
       stop-stays = λ v n g. n (ap position (g .board-is));
       below-held = λ v g. unsaid accepted (refused 7) refl (g .answer-is);
       queries-refuted = refute queries refl;
-      kind-4-held = λ r e. apart (3 ∷ []) (1 ∷ []) refl (ap heldIn e);
-      kind-0-held = λ r e. apart (3 ∷ []) (1 ∷ []) refl (ap heldIn e);
-      short-held = λ r e. apart (3 ∷ []) (1 ∷ []) refl (ap heldIn e);
-      kind-4-packed = λ e. unsaid (refused 3) accepted refl (ap answered e);
+      kind-4-held = λ r e. apart (3 ∷ []) (1 ∷ []) refl (ap saidOf e);
+      kind-0-held = λ r e. apart (3 ∷ []) (1 ∷ []) refl (ap saidOf e);
+      short-held = λ r e. apart (3 ∷ []) (1 ∷ []) refl (ap saidOf e);
+      kind-4-packed = λ e. apart (3 ∷ []) (1 ∷ []) refl (ap saidOf e);
       highest-first = apart (take 16 logA) (0 ∷ 0 ∷ 0 ∷ 1 ∷ 0 ∷ 1 ∷ 7 ∷ 0 ∷ 0 ∷ 0 ∷ 0 ∷ 2 ∷ 0 ∷ 0 ∷ 0 ∷ 0 ∷ []) refl;
       byte-behind = apart (take 16 logA ++ (9 ∷ [])) (take 16 logA ++ (0 ∷ [])) refl;
       row-is-3 = λ b log e. apart (numbersOf (refused 3)) (numbersOf (refused 9)) refl (e .replies-are);

@@ -39,8 +39,8 @@ use Rattle.board.proofs.replay.Replays.{shown-takes, w-kept, agrees, ro
 use Rattle.board.proofs.call.Machine.{counts, room, kept, read, call-whole}
 use Rattle.board.proofs.call.Refusals.{silent}
 use Rattle.board.proofs.lists.Reports.{tick-points, call-points}
-use Rattle.board.proofs.apply.Applying.{add-track-gives, set-up-gives, set-point-gives, drop-point-gives, clear-gives}
-use Rattle.board.proofs.apply.Applying.{clock-gives, track-gives, point-gives, point-count-gives}
+use Rattle.board.proofs.call.Leaving.{add-track-leaves, set-up-leaves, set-point-leaves, drop-point-leaves, clear-leaves}
+use Rattle.board.proofs.call.Leaving.{clock-leaves, track-leaves, point-leaves, point-count-leaves}
 use Rattle.board.proofs.Board.add_track.Reads as add-track-says
 use Rattle.board.proofs.Board.set_up.Reads as set-up-says
 use Rattle.board.proofs.Board.set_point.Reads as set-point-says
@@ -58,81 +58,80 @@ use Rattle.board.proofs.Board.point_count.Reads as point-count-says
 
 -- ---- calls as their contracts have them
 
--- an answer and a world are those of an outcome, the log as it was
-abbrev pub Left : World Board → Outcome → Reply → World Board → Type 0
-Left w r a v = (a ≡ answered (r .answer)) × (v ≡ world (r .board) (w .log))
+-- an answer and a world are what was said, a board and a log
+abbrev pub Left : Reply → Board → List ℕ → Reply → World Board → Type 0
+Left said b log a v = (a ≡ said) × (v ≡ world b log)
 
 -- A call, as its function's contract has it: the function is lent the board and, where it takes one, the log, and leaves them.
 -- `Learnt` is what its `ensures` tells a caller, of the lifetimes, the arguments, the result and the arguments at exit.
 abbrev pub Step : Call → World Board → Reply → World Board → Type 0
 Step (call.AddTrack i lo hi) w a v =
-    (r : Outcome) × add-track-says.Learnt tt (w .board, (i, (lo, (hi, tt)))) r (w .board, (i, (lo, (hi, tt)))) × Left w r a v
+    (r : Outcome) × add-track-says.Learnt tt (w .board, (i, (lo, (hi, tt)))) r (w .board, (i, (lo, (hi, tt)))) × Left (answered (r .answer)) (r .board) (w .log) a v
 Step (call.SetUp i c) w a v =
-    (r : Outcome) × set-up-says.Learnt tt (w .board, (i, (c, tt))) r (w .board, (i, (c, tt))) × Left w r a v
+    (r : Outcome) × set-up-says.Learnt tt (w .board, (i, (c, tt))) r (w .board, (i, (c, tt))) × Left (answered (r .answer)) (r .board) (w .log) a v
 Step (call.SetPoint i p e f c g) w a v =
     (r : Outcome)
     × set-point-says.Learnt tt (w .board, (i, (p, (e, (f, (c, (g, tt))))))) r (w .board, (i, (p, (e, (f, (c, (g, tt)))))))
-    × Left w r a v
+    × Left (answered (r .answer)) (r .board) (w .log) a v
 Step (call.DropPoint i p) w a v =
-    (r : Outcome) × drop-point-says.Learnt tt (w .board, (i, (p, tt))) r (w .board, (i, (p, tt))) × Left w r a v
+    (r : Outcome) × drop-point-says.Learnt tt (w .board, (i, (p, tt))) r (w .board, (i, (p, tt))) × Left (answered (r .answer)) (r .board) (w .log) a v
 Step (call.Play i) w a v =
     (κs : Lfts 1) × (x : RefT (List ℕ)) × (y : RefT (List ℕ)) × (r : Outcome)
     × play-says.Learnt κs (w .board, (i, (x, tt))) r (w .board, (i, (y, tt)))
-    × (now x ≡ w .log) × (a ≡ answered (r .answer)) × (v ≡ world (r .board) (now y))
+    × (now x ≡ w .log) × Left (answered (r .answer)) (r .board) (now y) a v
 Step (call.Pause i) w a v =
     (κs : Lfts 1) × (x : RefT (List ℕ)) × (y : RefT (List ℕ)) × (r : Outcome)
     × pause-says.Learnt κs (w .board, (i, (x, tt))) r (w .board, (i, (y, tt)))
-    × (now x ≡ w .log) × (a ≡ answered (r .answer)) × (v ≡ world (r .board) (now y))
+    × (now x ≡ w .log) × Left (answered (r .answer)) (r .board) (now y) a v
 Step (call.Resume i) w a v =
     (κs : Lfts 1) × (x : RefT (List ℕ)) × (y : RefT (List ℕ)) × (r : Outcome)
     × resume-says.Learnt κs (w .board, (i, (x, tt))) r (w .board, (i, (y, tt)))
-    × (now x ≡ w .log) × (a ≡ answered (r .answer)) × (v ≡ world (r .board) (now y))
+    × (now x ≡ w .log) × Left (answered (r .answer)) (r .board) (now y) a v
 Step (call.Stop i) w a v =
     (κs : Lfts 1) × (x : RefT (List ℕ)) × (y : RefT (List ℕ)) × (r : Outcome)
     × stop-says.Learnt κs (w .board, (i, (x, tt))) r (w .board, (i, (y, tt)))
-    × (now x ≡ w .log) × (a ≡ answered (r .answer)) × (v ≡ world (r .board) (now y))
+    × (now x ≡ w .log) × Left (answered (r .answer)) (r .board) (now y) a v
 Step (call.Advance n) w a v =
     (κs : Lfts 1) × (x : RefT (List ℕ)) × (y : RefT (List ℕ)) × (r : Progress)
     × advance-says.Learnt κs (w .board, (n, (x, tt))) r (w .board, (n, (y, tt)))
-    × (now x ≡ w .log) × (a ≡ advancedSaid (r .answer)) × (v ≡ world (r .board) (now y))
-Step call.Clear w a v = (r : Outcome) × clear-says.Learnt tt (w .board, tt) r (w .board, tt) × Left w r a v
-Step call.Clock w a v = (r : ClockRead) × clock-says.Learnt tt (w .board, tt) r (w .board, tt) × (a ≡ clockSaid r) × (v ≡ w)
+    × (now x ≡ w .log) × Left (advancedSaid (r .answer)) (r .board) (now y) a v
+Step call.Clear w a v = (r : Outcome) × clear-says.Learnt tt (w .board, tt) r (w .board, tt) × Left (answered (r .answer)) (r .board) (w .log) a v
+Step call.Clock w a v = (r : ClockRead) × clock-says.Learnt tt (w .board, tt) r (w .board, tt) × Left (clockSaid r) (w .board) (w .log) a v
 Step (call.Track i) w a v =
-    (r : TrackRead) × track-says.Learnt tt (w .board, (i, tt)) r (w .board, (i, tt)) × (a ≡ trackSaid (r .answer) (r .track)) × (v ≡ w)
+    (r : TrackRead) × track-says.Learnt tt (w .board, (i, tt)) r (w .board, (i, tt)) × Left (trackSaid (r .answer) (r .track)) (w .board) (w .log) a v
 Step (call.Point i p) w a v =
-    (r : PointRead) × point-says.Learnt tt (w .board, (i, (p, tt))) r (w .board, (i, (p, tt))) × (a ≡ pointSaid r) × (v ≡ w)
+    (r : PointRead) × point-says.Learnt tt (w .board, (i, (p, tt))) r (w .board, (i, (p, tt))) × Left (pointSaid r) (w .board) (w .log) a v
 Step (call.PointCount i from to) w a v =
     (r : CountRead) × point-count-says.Learnt tt (w .board, (i, (from, (to, tt)))) r (w .board, (i, (from, (to, tt))))
-    × (a ≡ countSaid r) × (v ≡ w)
+    × Left (countSaid r) (w .board) (w .log) a v
 
 abbrev did : Reply → World Board → Did Reply (World Board)
 did a v = record { answer = a; left = v }
 
 -- what a call gives is what it does
-gives-is : {d : Did Reply (World Board)} {a a′ : Reply} {b : Board} {l : List ℕ} {v : World Board} → Gives d a′ b l → a ≡ a′ → v ≡ world b l
-    → d ≡ did a v
-gives-is g p q = λ j. did ((sym (g .answer-is) ∙ sym p) j) (((λ i. world (sym (g .board-is) i) (sym (g .log-is) i)) ∙ sym q) j)
+gives-is : {d : Did Reply (World Board)} {said a : Reply} {b : Board} {l : List ℕ} {v : World Board} → Gives d said b l → Left said b l a v → d ≡ did a v
+gives-is g (p, q) = λ j. did ((sym (g .answer-is) ∙ sym p) j) (((λ i. world (sym (g .board-is) i) (sym (g .log-is) i)) ∙ sym q) j)
 
-lent-is : (c : Call) (w : World Board) (x y : RefT (List ℕ)) (b : Board) {a a′ : Reply} {v : World Board}
-    → Gives (does c (world (w .board) (now x))) a′ b (now y) → now x ≡ w .log → a ≡ a′ → v ≡ world b (now y) → does c w ≡ did a v
-lent-is c w x y b {a′ = a′} g e = gives-is (subst (λ (l : List ℕ). Gives (does c (world (w .board) l)) a′ b (now y)) e g)
+lent-is : (c : Call) (w : World Board) (x y : RefT (List ℕ)) (b : Board) {said a : Reply} {v : World Board}
+    → Gives (does c (world (w .board) (now x))) said b (now y) → now x ≡ w .log → Left said b (now y) a v → does c w ≡ did a v
+lent-is c w x y b {said} g e = gives-is (subst (λ (l : List ℕ). Gives (does c (world (w .board) l)) said b (now y)) e g)
 
 -- what each contract says is the rule
 step-is : (c : Call) (w : World Board) {a : Reply} {v : World Board} → Step c w a v → does c w ≡ did a v
-step-is (call.AddTrack i lo hi) w s = gives-is (add-track-gives (w .board) (w .log) i lo hi (s .1)) (s .2 .0) (s .2 .1)
-step-is (call.SetUp i c) w s = gives-is (set-up-gives (w .board) (w .log) i c (s .1)) (s .2 .0) (s .2 .1)
-step-is (call.SetPoint i p e f c g) w s = gives-is (set-point-gives (w .board) (w .log) i p e f c g (s .1)) (s .2 .0) (s .2 .1)
-step-is (call.DropPoint i p) w s = gives-is (drop-point-gives (w .board) (w .log) i p (s .1)) (s .2 .0) (s .2 .1)
-step-is (call.Play i) w s = lent-is (call.Play i) w (s .1) (s .2) (s .3 .board) (s .4) (s .5) (s .6) (s .7)
-step-is (call.Pause i) w s = lent-is (call.Pause i) w (s .1) (s .2) (s .3 .board) (s .4) (s .5) (s .6) (s .7)
-step-is (call.Resume i) w s = lent-is (call.Resume i) w (s .1) (s .2) (s .3 .board) (s .4) (s .5) (s .6) (s .7)
-step-is (call.Stop i) w s = lent-is (call.Stop i) w (s .1) (s .2) (s .3 .board) (s .4) (s .5) (s .6) (s .7)
-step-is (call.Advance n) w s = lent-is (call.Advance n) w (s .1) (s .2) (s .3 .board) (s .4) (s .5) (s .6) (s .7)
-step-is call.Clear w s = gives-is (clear-gives (w .board) (w .log) (s .1)) (s .2 .0) (s .2 .1)
-step-is call.Clock w s = gives-is (clock-gives (w .board) (w .log) (s .1)) (s .2) (s .3)
-step-is (call.Track i) w s = gives-is (track-gives (w .board) (w .log) i (s .1)) (s .2) (s .3)
-step-is (call.Point i p) w s = gives-is (point-gives (w .board) (w .log) i p (s .1)) (s .2) (s .3)
-step-is (call.PointCount i from to) w s = gives-is (point-count-gives (w .board) (w .log) i from to (s .1)) (s .2) (s .3)
+step-is (call.AddTrack i lo hi) w s = gives-is (s .1 (w .log)) (s .2)
+step-is (call.SetUp i c) w s = gives-is (s .1 (w .log)) (s .2)
+step-is (call.SetPoint i p e f c g) w s = gives-is (s .1 (w .log)) (s .2)
+step-is (call.DropPoint i p) w s = gives-is (s .1 (w .log)) (s .2)
+step-is (call.Play i) w s = lent-is (call.Play i) w (s .1) (s .2) (s .3 .board) (s .4) (s .5) (s .6)
+step-is (call.Pause i) w s = lent-is (call.Pause i) w (s .1) (s .2) (s .3 .board) (s .4) (s .5) (s .6)
+step-is (call.Resume i) w s = lent-is (call.Resume i) w (s .1) (s .2) (s .3 .board) (s .4) (s .5) (s .6)
+step-is (call.Stop i) w s = lent-is (call.Stop i) w (s .1) (s .2) (s .3 .board) (s .4) (s .5) (s .6)
+step-is (call.Advance n) w s = lent-is (call.Advance n) w (s .1) (s .2) (s .3 .board) (s .4) (s .5) (s .6)
+step-is call.Clear w s = gives-is (s .1 (w .log)) (s .2)
+step-is call.Clock w s = gives-is (s .1 (w .log)) (s .2)
+step-is (call.Track i) w s = gives-is (s .1 (w .log)) (s .2)
+step-is (call.Point i p) w s = gives-is (s .1 (w .log)) (s .2)
+step-is (call.PointCount i from to) w s = gives-is (s .1 (w .log)) (s .2)
 
 -- A list of calls, one after the other: each gets the board and the log as the one before it left them.
 pub data Trace : List Call → World Board → List Reply → World Board → Type 0 where
@@ -237,23 +236,20 @@ trace-whole (then {c = c} {w = w} s t) h =
 lends : List ℕ → RefT (List ℕ)
 lends l = record { ptr = (0, 0); name = 0; now = l }
 
+-- what a call gives is an answer and a world that its function can leave
+gives-left : {d : Did Reply (World Board)} {said : Reply} {b : Board} {l : List ℕ} → Gives d said b l → Left said b l (d .answer) (d .left)
+gives-left g = (sym (g .answer-is), λ i. world (sym (g .board-is) i) (sym (g .log-is) i))
+
 -- a mode call's function can answer and leave what the call does
 mode-met : (κs : Lfts 1) (c : Call) (w : World Board) (a : Answer) → answered a ≡ does c w .answer
     → (κs : Lfts 1) × (x : RefT (List ℕ)) × (y : RefT (List ℕ)) × (r : Outcome)
     × Gives (does c (world (w .board) (now x))) (answered (r .answer)) (r .board) (now y)
-    × (now x ≡ w .log) × (does c w .answer ≡ answered (r .answer)) × (does c w .left ≡ world (r .board) (now y))
+    × (now x ≡ w .log) × Left (answered (r .answer)) (r .board) (now y) (does c w .answer) (does c w .left)
 unfolding lends
 mode-met κs c w a e =
-    let d = does c w in (
-      κs,
-      lends (w .log),
-      lends (d .left .log),
-      record { answer = a; board = d .left .board },
-      record { answer-is = e; board-is = refl; log-is = refl },
-      refl,
-      sym e,
-      refl,
-    )
+    let d = does c w in
+    let g : Gives d (answered a) (d .left .board) (d .left .log) = record { answer-is = e; board-is = refl; log-is = refl } in
+    (κs, lends (w .log), lends (d .left .log), record { answer = a; board = d .left .board }, g, refl, gives-left g)
 
 -- what an advance answers is an answer that its function can give
 record Said (a : Reply) : Type 0 where
@@ -289,10 +285,10 @@ advance-said n w = go (countOf (call.Advance n))
 
 step-met : (κs : Lfts 1) (c : Call) (w : World Board) → Step c w (does c w .answer) (does c w .left)
 unfolding countOf saysOf makesOf lends
-step-met κs (call.AddTrack i lo hi) w = (addTrack (w .board) i lo hi, refl, (refl, silent _ w))
-step-met κs (call.SetUp i c) w = (setUp (w .board) i c, refl, (refl, silent _ w))
-step-met κs (call.SetPoint i p e f c g) w = (setPoint (w .board) i p e f c g, refl, (refl, silent _ w))
-step-met κs (call.DropPoint i p) w = (dropPoint (w .board) i p, refl, (refl, silent _ w))
+step-met κs (call.AddTrack i lo hi) w = let l = add-track-leaves (w .board) i lo hi refl in (addTrack (w .board) i lo hi, l, gives-left (l (w .log)))
+step-met κs (call.SetUp i c) w = let l = set-up-leaves (w .board) i c refl in (setUp (w .board) i c, l, gives-left (l (w .log)))
+step-met κs (call.SetPoint i p e f c g) w = let l = set-point-leaves (w .board) i p e f c g refl in (setPoint (w .board) i p e f c g, l, gives-left (l (w .log)))
+step-met κs (call.DropPoint i p) w = let l = drop-point-leaves (w .board) i p refl in (dropPoint (w .board) i p, l, gives-left (l (w .log)))
 step-met κs (call.Play i) w = mode-met κs (call.Play i) w (modeRuling (w .board) (length (w .log)) i PLAY .answer) refl
 step-met κs (call.Pause i) w = mode-met κs (call.Pause i) w (modeRuling (w .board) (length (w .log)) i PAUSE .answer) refl
 step-met κs (call.Resume i) w = mode-met κs (call.Resume i) w (modeRuling (w .board) (length (w .log)) i RESUME .answer) refl
@@ -301,12 +297,12 @@ step-met κs (call.Advance n) w =
     let d = does (call.Advance n) w in
     let s = advance-said n w in
     let g : Gives d (advancedSaid (s .told)) (d .left .board) (d .left .log) = record { answer-is = s .is; board-is = refl; log-is = refl } in
-    (κs, lends (w .log), lends (d .left .log), record { answer = s .told; board = d .left .board }, g, refl, sym (s .is), refl)
-step-met κs call.Clear w = (clearBoard (w .board), refl, (refl, silent _ w))
-step-met κs call.Clock w = (clockOf (w .board), refl, refl, silent (w .board) w)
-step-met κs (call.Track i) w = (trackOf (w .board) i, refl, refl, silent (w .board) w)
-step-met κs (call.Point i p) w = (pointIn (w .board) i p, refl, refl, silent (w .board) w)
-step-met κs (call.PointCount i from to) w = (countIn (w .board) i from to, refl, refl, silent (w .board) w)
+    (κs, lends (w .log), lends (d .left .log), record { answer = s .told; board = d .left .board }, g, refl, gives-left g)
+step-met κs call.Clear w = let l = clear-leaves (w .board) refl in (clearBoard (w .board), l, gives-left (l (w .log)))
+step-met κs call.Clock w = let l = clock-leaves (w .board) refl in (clockOf (w .board), l, gives-left (l (w .log)))
+step-met κs (call.Track i) w = let l = track-leaves (w .board) i refl in (trackOf (w .board) i, l, gives-left (l (w .log)))
+step-met κs (call.Point i p) w = let l = point-leaves (w .board) i p refl in (pointIn (w .board) i p, l, gives-left (l (w .log)))
+step-met κs (call.PointCount i from to) w = let l = point-count-leaves (w .board) i from to refl in (countIn (w .board) i from to, l, gives-left (l (w .log)))
 
 -- what any function promises to give for a call is a step of it
 pub gives-step : (κs : Lfts 1) (c : Call) (w : World Board) {a : Reply} {v : World Board} → Gives (does c w) a (v .board) (v .log) → Step c w a v

@@ -2,11 +2,11 @@
 use Prim.Native.Nat.{ℕ, _+_, _*_, _≤_, _<_}
 use mathlib.Core.Path.{_≡_, refl, sym, _∙_, ap, subst}
 use mathlib.Core.List.{List, [], _∷_}
-use native.Mathlib.Nat.{add-zero}
+use native.Mathlib.Nat.{add-zero, mul-comm}
 use native.Mathlib.Omega.{arith}
 use lib.IntN.{ℤ}
 use lib.ListN.{length, set}
-use lib.Seq.{set-getD}
+use lib.Seq.{sets, set-getD}
 use borrow.Author.Tests.{eq-eqb, ne-eqb, le-leb, lt-leb}
 use Rattle.track.specs.declared.Track.{Track}
 use Rattle.track.specs.declared.setup.Answer.the-variants.{Accepted, Refused}
@@ -16,17 +16,72 @@ use Rattle.board.specs.Log.{writeAt, recordWidth, logBytes, capacity, de
 use Rattle.board.specs.declared.Board.{Board}
 use Rattle.board.specs.declared.log.Record.{Record}
 use Rattle.board.specs.declared.setup.Outcome.{Outcome}
-use Rattle.board.proofs.tick.Staging.{write-none}
+use Rattle.board.proofs.tick.Staging.{length-log, write-none}
 use Rattle.board.specs.Board.{noTrack, trackAt}
 use Rattle.board.specs.Setup.{refused, accepted, boardWith}
 use Rattle.board.specs.Tick.{recordOf, changeRecords}
-use Rattle.board.specs.Mode.{Ruling, declined, callRecords, changesTo, modeRuling, Follows, outcomeOf}
+use Rattle.board.specs.Mode.{Ruling, declined, callRecords, changesTo, modeRuling, outcomeOf}
 use Rattle.board.specs.declared.mode.Ruled.{Ruled}
+use Rattle.board.specs.Replay.{World, flat}
+use Rattle.board.specs.declared.call.Call.the-variants as call
+use Rattle.track.specs.Grid.{PLAY, PAUSE, RESUME, STOP}
+use Rattle.board.specs.Call.{Reply, answered, gridstep, countOf, saysOf, makesOf, does, modeDoes, world, Gives}
+use Rattle.board.proofs.replay.Replays.{sets-write}
+use Rattle.board.proofs.call.Machine.{flat-is, ruling-ways}
 
--- by the track's number as it was given
-pub follows-told : (b : Board) (n call : ℕ) {told given : ℤ} {r : Outcome} {before after : List ℕ} → told ≡ given →
-    Follows (modeRuling b n told call) r before after → Follows (modeRuling b n given call) r before after
-follows-told b n call {r = r} {before} {after} e f = subst (λ (t : ℤ). Follows (modeRuling b n t call) r before after) e f
+-- an outcome, and the log before and after it, follow a ruling: the records go behind the held ones, and held grows by them
+pub record Follows (m : Ruling) (o : Outcome) (before after : List ℕ) : Type 0 where
+  pub answer-is : o .answer ≡ m .answer
+  pub board-is : o .board ≡ boardWith (m .board) (m .board .tracks) (m .board .present) (m .board .points) (m .board .held + length (m .records))
+  pub log-is : after ≡ writeAt before (m .board .held * recordWidth) (logBytes (m .records))
+
+-- ---- what follows a ruling is what the call gives
+
+module _ (b : Board) (log : List ℕ) where
+  -- storing the records of a mode call is writing them
+  ruling-log : (track : ℤ) (code : ℕ) →
+      let m = modeRuling b (length log) track code in
+      writeAt log (m .board .held * recordWidth) (logBytes (m .records)) ≡ sets log (recordWidth * m .board .held) (flat gridstep (m .records))
+  unfolding logBytes
+  ruling-log =
+      ruling-ways b (length log)
+      (λ (m : Ruling). writeAt log (m .board .held * recordWidth) (logBytes (m .records)) ≡ sets log (recordWidth * m .board .held) (flat gridstep (m .records)))
+      (λ k. write-none log (b .held * recordWidth))
+      (λ i mode _ _ fits.
+      let rs = callRecords b i mode in
+      let l = length-log rs in
+      sym (sets-write log (logBytes rs) (b .held * recordWidth) (omega arith))
+      ∙ (λ j. sets log (mul-comm (b .held) recordWidth j) (sym (flat-is rs) j)))
+
+  -- what follows a mode call's ruling is what the call gives
+  pub ruling-gives : (track : ℤ) (code : ℕ) {r : Outcome} {after : List ℕ} → Follows (modeRuling b (length log) track code) r log after →
+      Gives (modeDoes code track (world b log)) (answered (r .answer)) (r .board) after
+  unfolding modeDoes
+  ruling-gives track code f =
+      record { answer-is = ap answered (f .answer-is); board-is = f .board-is; log-is = f .log-is ∙ ruling-log track code }
+
+-- the same of each of the four, the number of the track as it was given
+module _ (w : World Board) {told given : ℤ} {a : Reply} {b : Board} {log : List ℕ} (e : told ≡ given) where
+  pub gives-told : (code : ℕ) → Gives (modeDoes code told w) a b log → Gives (modeDoes code given w) a b log
+  gives-told code g = subst (λ (t : ℤ). Gives (modeDoes code t w) a b log) e g
+
+  pub play-gives : Gives (modeDoes PLAY told w) a b log → Gives (does (call.Play given) w) a b log
+  unfolding modeDoes countOf saysOf makesOf
+  play-gives g = subst (λ (t : ℤ). Gives (does (call.Play t) w) a b log) e g
+
+  pub pause-gives : Gives (modeDoes PAUSE told w) a b log → Gives (does (call.Pause given) w) a b log
+  unfolding modeDoes countOf saysOf makesOf
+  pause-gives g = subst (λ (t : ℤ). Gives (does (call.Pause t) w) a b log) e g
+
+  pub resume-gives : Gives (modeDoes RESUME told w) a b log → Gives (does (call.Resume given) w) a b log
+  unfolding modeDoes countOf saysOf makesOf
+  resume-gives g = subst (λ (t : ℤ). Gives (does (call.Resume t) w) a b log) e g
+
+  pub stop-gives : Gives (modeDoes STOP told w) a b log → Gives (does (call.Stop given) w) a b log
+  unfolding modeDoes countOf saysOf makesOf
+  stop-gives g = subst (λ (t : ℤ). Gives (does (call.Stop t) w) a b log) e g
+
+-- ---- the ways out
 
 -- a refusal follows a ruling that declines
 pub follows-declined : (k : ℕ) (b : Board) (log : List ℕ) {m : Ruling} {r : Outcome} → declined k b ≡ m → r ≡ refused k b → Follows m r log log

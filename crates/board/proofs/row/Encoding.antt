@@ -1,7 +1,7 @@
 -- The laws of calls and replies as rows of numbers.
 use mathlib.Core.Path.{_≡_, refl, sym, ap, _∙_}
 use mathlib.Core.Bool.{Bool, true, false}
-use mathlib.Core.List.{List, _∷_, _++_, append-nil}
+use mathlib.Core.List.{List, [], _∷_, _++_, append-nil}
 use mathlib.Core.Option.{none}
 use Prim.Native.Nat.{ℕ, zero, suc, _+_, _-_, _^_, _≤_, _<_}
 use native.Mathlib.Nat.{add-zero}
@@ -18,10 +18,13 @@ use mir.Facts.{toZ-ofZ}
 use Rattle.track.specs.declared.Track.{Track}
 use Rattle.track.specs.declared.number.Natural.{Natural}
 use Rattle.track.specs.declared.number.Natural.the-variants as natural
-use Rattle.track.specs.Number.{naturalOf, onNatural}
-use Rattle.track.proofs.Numbers.{natural-in, natural-of, back}
+use Rattle.track.specs.Number.{naturalOf, onNatural, valueOf, coordinateAt}
+use Rattle.track.specs.declared.Coordinate.{Coordinate}
+use Rattle.track.proofs.Numbers.{natural-in, natural-of, coordinate-at, back}
 use Rattle.board.specs.Log.{writeAt}
-use Rattle.board.specs.Row.{callFrom, callOf, callAt, padded, trackNumbers}
+use Rattle.board.specs.Row.{callFrom, callOf, callAt, padded, trackNumbers, pointNumbers}
+use Rattle.board.specs.Call.{TrackValues, trackValues, pointValues}
+use Rattle.board.specs.declared.points.Point.{Point}
 
 -- ---- the call of a row
 
@@ -105,8 +108,44 @@ cells-behind head cells h l =
     ∙ ap (λ (r : List ℕ). take 12 head ++ (cells ++ r)) (drop-of-length-le head {i = 12 + length cells} (omega arith))
     ∙ ap (λ (r : List ℕ). take 12 head ++ r) (append-nil cells)
 
+-- the numbers of a track and of a point have their coordinates
+pub track-coordinates : (t : Track) →
+    t .min .0
+    ∷ t .max .0
+    ∷ t .start .0
+    ∷ t .end .0
+    ∷ t .position .0
+    ∷ t .passes .0
+    ∷ t .loops
+    ∷ t .mode
+    ∷ t .direction
+    ∷ t .repeat
+    ∷ t .due
+    ∷ t .actions
+    ≡ trackNumbers (trackValues t)
+track-coordinates t =
+    λ i. at (t .min) i
+    ∷ at (t .max) i
+    ∷ at (t .start) i
+    ∷ at (t .end) i
+    ∷ at (t .position) i
+    ∷ t .passes .0
+    ∷ t .loops
+    ∷ t .mode
+    ∷ t .direction
+    ∷ t .repeat
+    ∷ t .due
+    ∷ t .actions
+  where
+    at : (c : Coordinate) → c .0 ≡ coordinateAt (valueOf c) .0
+    at c = ap (λ (d : Coordinate). d .0) (sym (coordinate-at c))
+
+pub point-coordinate : (p : Point) →
+    p .track ∷ p .position .0 ∷ p .event ∷ p .wait ∷ p .command ∷ p .target ∷ [] ≡ pointNumbers (pointValues p)
+point-coordinate p = λ i. p .track ∷ sym (coordinate-at (p .position)) i .0 ∷ p .event ∷ p .wait ∷ p .command ∷ p .target ∷ []
+
 -- a track's numbers are as many as a row has, and the cells stand last
-pub track-numbers : (t : Track) → length (t .actions) ≡ 16 →
+pub track-numbers : (t : TrackValues) → length (t .actions) ≡ 16 →
     take 12 (padded (6 ∷ take 11 (trackNumbers t))) ++ t .actions ≡ padded (6 ∷ trackNumbers t)
 track-numbers t l =
     let xs : List ℕ = 6 ∷ trackNumbers t in

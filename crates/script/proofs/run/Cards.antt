@@ -4,8 +4,7 @@ use mathlib.Core.Path.{_≡_, refl, ap, _∙_}
 use mathlib.Core.List.{List, [], _∷_, _++_, map}
 use mathlib.Core.Option.{Option, some}
 use lib.ListN.{replicate}
-use Rattle.track.specs.Number.{valueOf}
-use Rattle.board.specs.Log.{fromLe, kindTest, coordinateFrom, spelled, unpackOf}
+use Rattle.board.specs.Log.{fromLe, kindTest, signedOf, spelled, unpackOf}
 use Rattle.board.specs.declared.Board.{Board}
 use Rattle.board.specs.Cut.{All}
 use Rattle.board.specs.Replay.{World}
@@ -84,9 +83,9 @@ printed-shown n =
 -- ---- the cases
 
 pub printed-a : printed bytesA (replicate 96 0) ≡ textA
-unfolding ran valueOf fromLe kindTest coordinateFrom spelled unpackOf digitsThen
+unfolding ran fromLe kindTest signedOf spelled unpackOf digitsThen
 printed-a = printed-shown 96 ∙ ap printedOf (cards .a) ∙ refl
 
 pub printed-b : printed bytesA (replicate 47 0) ≡ textB
-unfolding ran valueOf fromLe kindTest coordinateFrom spelled unpackOf digitsThen
+unfolding ran fromLe kindTest signedOf spelled unpackOf digitsThen
 printed-b = printed-shown 47 ∙ ap printedOf (cards .b) ∙ refl

@@ -11,9 +11,10 @@ use lib.Seq.{drop-cons, drop-set-lt, getD-set-same, append-snoc, take-suc, take-
 use borrow.Author.Tests.{lt-ltb, le-ltb}
 use Rattle.track.specs.declared.Coordinate.{Coordinate}
 use Rattle.track.specs.Number.{valueOf}
+use Rattle.board.specs.Log.{positionOf}
 use Rattle.script.specs.declared.text.Digits.{Digits}
 use Rattle.script.specs.declared.text.Out.{Out}
-use Rattle.script.specs.Text.{digitsThen, decimal, numberThen, positionText, textOf, IsDecimal, Adds}
+use Rattle.script.specs.Text.{digitsThen, decimal, numberThen, signed, textOf, IsDecimal, Adds}
 
 -- ---- digits
 
@@ -98,41 +99,44 @@ adds-digits o r n d l e f =
     }
 
 -- the position of a coordinate
-position-low : (c : Coordinate) → c .0 < 1000000 → 45 ∷ decimal (1000000 - c .0) ≡ positionText c
-unfolding valueOf
+position-low : (c : Coordinate) → c .0 < 1000000 → 45 ∷ decimal (1000000 - c .0) ≡ signed (positionOf c)
+unfolding positionOf valueOf
 position-low c h =
     let e : suc (1000000 - suc (c .0)) ≡ 1000000 - c .0 = omega arith in
     sym (simp (lt-ltb (c .0) 2148483648 (omega arith), lt-ltb (c .0) 1000000 h) (ap (λ (n : ℕ). 45 ∷ decimal n) e))
 
-position-high : (c : Coordinate) → 1000000 ≤ c .0 → c .0 < 2148483648 → decimal (c .0 - 1000000) ≡ positionText c
-unfolding valueOf
+position-high : (c : Coordinate) → 1000000 ≤ c .0 → c .0 < 2148483648 → decimal (c .0 - 1000000) ≡ signed (positionOf c)
+unfolding positionOf valueOf
 position-high c h l = sym (simp (lt-ltb (c .0) 2148483648 l, le-ltb (c .0) 1000000 h) refl)
 
-position-wraps : (c : Coordinate) → 2148483648 ≤ c .0 → 45 ∷ decimal (4295967296 - c .0) ≡ positionText c
-position-wraps c h = sym (simp (le-ltb (c .0) 2148483648 h) refl)
+position-wraps : (c : Coordinate) → 2148483648 ≤ c .0 → c .0 < 4294967296 → 45 ∷ decimal (4295967296 - c .0) ≡ signed (positionOf c)
+unfolding positionOf
+position-wraps c h l =
+    let e : suc (4295967295 - c .0) ≡ 4295967296 - c .0 = omega arith in
+    sym (simp (le-ltb (c .0) 2148483648 h) (ap (λ (n : ℕ). 45 ∷ decimal n) e))
 
 -- with a comma behind it
 module _ (o r : Out) (c : Coordinate) where
-  minus-adds : (p : Out) (n : ℕ) → 45 ∷ decimal n ≡ positionText c → Adds o (45 ∷ []) 1 p → Adds p (numberThen n 44) 21 r →
-      Adds o (positionText c ++ (44 ∷ [])) 22 r
+  minus-adds : (p : Out) (n : ℕ) → 45 ∷ decimal n ≡ signed (positionOf c) → Adds o (45 ∷ []) 1 p → Adds p (numberThen n 44) 21 r →
+      Adds o (signed (positionOf c) ++ (44 ∷ [])) 22 r
   minus-adds p n e f g =
       let b = adds-both o p r (45 ∷ []) (numberThen n 44) 1 21 f g in
       record { adds = b .adds ∙ ap (λ (x : List ℕ). textOf o ++ (x ++ (44 ∷ []))) e; few = b .few }
 
   pub adds-low : (p : Out) → c .0 < 1000000 → Adds o (45 ∷ []) 1 p → Adds p (numberThen (1000000 - c .0) 44) 21 r →
-      Adds o (positionText c ++ (44 ∷ [])) 22 r
+      Adds o (signed (positionOf c) ++ (44 ∷ [])) 22 r
   adds-low p h f g = minus-adds p (1000000 - c .0) (position-low c h) f g
 
-  pub adds-high : 1000000 ≤ c .0 → c .0 < 2148483648 → Adds o (numberThen (c .0 - 1000000) 44) 21 r → Adds o (positionText c ++ (44 ∷ [])) 22 r
+  pub adds-high : 1000000 ≤ c .0 → c .0 < 2148483648 → Adds o (numberThen (c .0 - 1000000) 44) 21 r → Adds o (signed (positionOf c) ++ (44 ∷ [])) 22 r
   adds-high h l f =
       record {
         adds = f .adds ∙ ap (λ (x : List ℕ). textOf o ++ (x ++ (44 ∷ []))) (position-high c h l);
         few = omega (arith, f .few);
       }
 
-  pub adds-wraps : (p : Out) → 2148483648 ≤ c .0 → Adds o (45 ∷ []) 1 p → Adds p (numberThen (4295967296 - c .0) 44) 21 r →
-      Adds o (positionText c ++ (44 ∷ [])) 22 r
-  adds-wraps p h f g = minus-adds p (4295967296 - c .0) (position-wraps c h) f g
+  pub adds-wraps : (p : Out) → 2148483648 ≤ c .0 → c .0 < 4294967296 → Adds o (45 ∷ []) 1 p → Adds p (numberThen (4295967296 - c .0) 44) 21 r →
+      Adds o (signed (positionOf c) ++ (44 ∷ [])) 22 r
+  adds-wraps p h l f g = minus-adds p (4295967296 - c .0) (position-wraps c h l) f g
 
 -- ---- a line into a buffer
 

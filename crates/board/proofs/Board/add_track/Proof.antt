@@ -1,3 +1,4 @@
+use Rattle.board.proofs.call.Leaving.{add-track-leaves}
 use Prim.Native.Nat.{_<_}
 use Rattle.board.proofs.Board.add_track.Statement.{statement}
 use Rattle.board.proofs.Board.add_track.Tie as tie
@@ -45,7 +46,7 @@ refused-requires c κs = search needs
 
 returns : tie.Need-returns
 unfolding addTrack
-returns c = cond-no _ _ (sym (c .before .before .unbroken .ensures) ∙ not-true _ (c .before .if1 .taken)) (c .refused .ensures)
+returns c = add-track-leaves _ _ _ _ (cond-no _ _ (sym (c .before .before .unbroken .ensures) ∙ not-true _ (c .before .if1 .taken)) (c .refused .ensures))
 
 in-range-requires : tie.Need-in-range-requires
 in-range-requires c κs = search needs
@@ -61,8 +62,7 @@ refused-requires-2 c κs = search needs
 
 returns-2 : tie.Need-returns-2
 unfolding addTrack
-returns-2 c =
-    cond-yes _ _ (whole (c .before .before .before .before)) (natural-out _ _ _ (told at (c .before .before .before .before .before .before .before .before .before .before .before .before .before .fits .number) (c .before .before .before .in-range .ensures) (c .before .enum-told .given .1)) (c .refused2 .ensures))
+returns-2 c = add-track-leaves _ _ _ _ (cond-yes _ _ (whole (c .before .before .before .before)) (natural-out _ _ _ (told at (c .before .before .before .before .before .before .before .before .before .before .before .before .before .fits .number) (c .before .before .before .in-range .ensures) (c .before .enum-told .given .1)) (c .refused2 .ensures)))
 
 is-present-requires : tie.Need-is-present-requires
 is-present-requires c κs = search needs
@@ -72,8 +72,7 @@ refused-requires-3 c κs = search needs
 
 returns-3 : tie.Need-returns-3
 unfolding addTrack
-returns-3 c =
-    cond-yes _ _ (whole (c .before .before .before .before .before .before .before)) (natural-take _ _ _ (number (c .before .before .before .before)) (cond-yes _ _ (sym (c .before .before .is-present .ensures) ∙ c .before .if2 .taken) (c .refused3 .ensures)))
+returns-3 c = add-track-leaves _ _ _ _ (cond-yes _ _ (whole (c .before .before .before .before .before .before .before)) (natural-take _ _ _ (number (c .before .before .before .before)) (cond-yes _ _ (sym (c .before .before .is-present .ensures) ∙ c .before .if2 .taken) (c .refused3 .ensures))))
 
 of-requires : tie.Need-of-requires
 of-requires c κs = search needs
@@ -89,9 +88,8 @@ refused-requires-4 c κs = search needs
 
 returns-4 : tie.Need-returns-4
 unfolding addTrack
-returns-4 c =
-    cond-yes _ _ (whole (c .before .before .before .before .before .before .before .before .before .before)) (natural-take _ _ _ (number (c .before .before .before .before .before .before .before)) (cond-no _ _ (sym (c .before .before .before .before .before .is-present .ensures) ∙ c .before .before .before .before .if2 .left)
-    (place-out _ _ _ (told coordinateOf (c .before .before .before .before .before .before .before .before .before .before .before .before .before .before .before .before .before .before .before .fits .min) (c .before .before .before .of .ensures) (c .before .enum-told2 .given .1)) (c .refused4 .ensures))))
+returns-4 c = add-track-leaves _ _ _ _ (cond-yes _ _ (whole (c .before .before .before .before .before .before .before .before .before .before)) (natural-take _ _ _ (number (c .before .before .before .before .before .before .before)) (cond-no _ _ (sym (c .before .before .before .before .before .is-present .ensures) ∙ c .before .before .before .before .if2 .left)
+    (place-out _ _ _ (told coordinateOf (c .before .before .before .before .before .before .before .before .before .before .before .before .before .before .before .before .before .before .before .fits .min) (c .before .before .before .of .ensures) (c .before .enum-told2 .given .1)) (c .refused4 .ensures)))))
 
 of-requires-2 : tie.Need-of-requires-2
 of-requires-2 c κs = search needs
@@ -107,20 +105,18 @@ refused-requires-5 c κs = search needs
 
 returns-5 : tie.Need-returns-5
 unfolding addTrack
-returns-5 c =
-    cond-yes _ _ (whole (c .before .before .before .before .before .before .before .before .before .before .before .before .before .before)) (natural-take _ _ _ (number (c .before .before .before .before .before .before .before .before .before .before .before)) (cond-no _ _ (sym (c .before .before .before .before .before .before .before .before .before .is-present .ensures) ∙ c .before .before .before .before .before .before .before .before .if2 .left)
+returns-5 c = add-track-leaves _ _ _ _ (cond-yes _ _ (whole (c .before .before .before .before .before .before .before .before .before .before .before .before .before .before)) (natural-take _ _ _ (number (c .before .before .before .before .before .before .before .before .before .before .before)) (cond-no _ _ (sym (c .before .before .before .before .before .before .before .before .before .is-present .ensures) ∙ c .before .before .before .before .before .before .before .before .if2 .left)
     (place-take _ _ _ (told coordinateOf (c .before .before .before .before .before .before .before .before .before .before .before .before .before .before .before .before .before .before .before .before .before .before .before .fits .min) (c .before .before .before .before .before .before .before .of .ensures) (c .before .before .before .before .before .low .given .1))
-    (place-out _ _ _ (told coordinateOf (c .before .before .before .before .before .before .before .before .before .before .before .before .before .before .before .before .before .before .before .before .before .before .before .fits .max) (c .before .before .before .of2 .ensures) (c .before .enum-told3 .given .1)) (c .refused5 .ensures)))))
+    (place-out _ _ _ (told coordinateOf (c .before .before .before .before .before .before .before .before .before .before .before .before .before .before .before .before .before .before .before .before .before .before .before .fits .max) (c .before .before .before .of2 .ensures) (c .before .enum-told3 .given .1)) (c .refused5 .ensures))))))
 
 refused-requires-6 : tie.Need-refused-requires-6
 refused-requires-6 c κs = search needs
 
 returns-6 : tie.Need-returns-6
 unfolding addTrack
-returns-6 c =
-    cond-yes _ _ (whole (c .before .before .before .before .before .before .before .before .before .before .before .before .before .before .before .before .before .before)) (natural-take _ _ _ (number (c .before .before .before .before .before .before .before .before .before .before .before .before .before .before .before)) (cond-no _ _ (sym (c .before .before .before .before .before .before .before .before .before .before .before .before .before .is-present .ensures) ∙ c .before .before .before .before .before .before .before .before .before .before .before .before .if2 .left)
+returns-6 c = add-track-leaves _ _ _ _ (cond-yes _ _ (whole (c .before .before .before .before .before .before .before .before .before .before .before .before .before .before .before .before .before .before)) (natural-take _ _ _ (number (c .before .before .before .before .before .before .before .before .before .before .before .before .before .before .before)) (cond-no _ _ (sym (c .before .before .before .before .before .before .before .before .before .before .before .before .before .is-present .ensures) ∙ c .before .before .before .before .before .before .before .before .before .before .before .before .if2 .left)
     (place-take _ _ _ (told coordinateOf (c .before .before .before .before .before .before .before .before .before .before .before .before .before .before .before .before .before .before .before .before .before .before .before .before .before .before .before .fits .min) (c .before .before .before .before .before .before .before .before .before .before .before .of .ensures) (c .before .before .before .before .before .before .before .before .before .low .given .1))
-    (place-take _ _ _ (told coordinateOf (c .before .before .before .before .before .before .before .before .before .before .before .before .before .before .before .before .before .before .before .before .before .before .before .before .before .before .before .fits .max) (c .before .before .before .before .before .before .before .of2 .ensures) (c .before .before .before .before .before .high .given .1)) (cond-no _ _ (le-ltb _ _ (c .before .if3 .taken)) (c .refused6 .ensures))))))
+    (place-take _ _ _ (told coordinateOf (c .before .before .before .before .before .before .before .before .before .before .before .before .before .before .before .before .before .before .before .before .before .before .before .before .before .before .before .fits .max) (c .before .before .before .before .before .before .before .of2 .ensures) (c .before .before .before .before .before .high .given .1)) (cond-no _ _ (le-ltb _ _ (c .before .if3 .taken)) (c .refused6 .ensures)))))))
 
 cast-at : tie.Need-cast-at
 cast-at c = search needs
@@ -142,11 +138,10 @@ accepted-requires c κs = search needs
 
 returns-7 : tie.Need-returns-7
 unfolding addTrack
-returns-7 c =
-    cond-yes _ _ (whole (c .before .before .before .before .before .before .before .before .before .before .before .before .before .before .before .before .before .before .before .before)) (natural-take _ _ _ (number (c .before .before .before .before .before .before .before .before .before .before .before .before .before .before .before .before .before)) (cond-no _ _ (sym (c .before .before .before .before .before .before .before .before .before .before .before .before .before .before .before .is-present .ensures) ∙ c .before .before .before .before .before .before .before .before .before .before .before .before .before .before .if2 .left)
+returns-7 c = add-track-leaves _ _ _ _ (cond-yes _ _ (whole (c .before .before .before .before .before .before .before .before .before .before .before .before .before .before .before .before .before .before .before .before)) (natural-take _ _ _ (number (c .before .before .before .before .before .before .before .before .before .before .before .before .before .before .before .before .before)) (cond-no _ _ (sym (c .before .before .before .before .before .before .before .before .before .before .before .before .before .before .before .is-present .ensures) ∙ c .before .before .before .before .before .before .before .before .before .before .before .before .before .before .if2 .left)
     (place-take _ _ _ (told coordinateOf (c .before .before .before .before .before .before .before .before .before .before .before .before .before .before .before .before .before .before .before .before .before .before .before .before .before .before .before .before .before .fits .min) (c .before .before .before .before .before .before .before .before .before .before .before .before .before .of .ensures) (c .before .before .before .before .before .before .before .before .before .before .before .low .given .1))
     (place-take _ _ _ (told coordinateOf (c .before .before .before .before .before .before .before .before .before .before .before .before .before .before .before .before .before .before .before .before .before .before .before .before .before .before .before .before .before .fits .max) (c .before .before .before .before .before .before .before .before .before .of2 .ensures) (c .before .before .before .before .before .before .before .high .given .1)) (cond-yes _ _ (lt-ltb _ _ (c .before .before .before .if3 .left))
-    (c .accepted .ensures ∙ track-added (c .before .before .before .before .before .before .before .before .before .before .before .before .before .before .before .before .before .before .before .before .before .before .before .before .before .before .before .before .before .args .t1) _ (c .before .before .new .ensures) (c .before .with-track .ensures)))))))
+    (c .accepted .ensures ∙ track-added (c .before .before .before .before .before .before .before .before .before .before .before .before .before .before .before .before .before .before .before .before .before .before .before .before .before .before .before .before .before .args .t1) _ (c .before .before .new .ensures) (c .before .with-track .ensures))))))))
 
 pub add-track-spec : {M : Type 1} → statement M
 add-track-spec =

@@ -1,3 +1,4 @@
+use Rattle.board.proofs.call.Leaving.{clear-leaves}
 use Rattle.board.proofs.Board.clear.Statement.{statement}
 use Rattle.board.proofs.Board.clear.Tie as tie
 use Rattle.board.specs.Setup.{clearBoard}
@@ -23,14 +24,14 @@ refused-requires c κs = search needs
 
 returns : tie.Need-returns
 unfolding clearBoard
-returns c = cond-no _ _ (sym (c .before .before .unbroken .ensures) ∙ not-true _ (c .before .if1 .taken)) (c .refused .ensures)
+returns c = clear-leaves _ (cond-no _ _ (sym (c .before .before .unbroken .ensures) ∙ not-true _ (c .before .if1 .taken)) (c .refused .ensures))
 
 accepted-requires : tie.Need-accepted-requires
 accepted-requires c κs = search needs
 
 returns-2 : tie.Need-returns-2
 unfolding clearBoard
-returns-2 c = cond-yes _ _ (whole (c .before)) (c .accepted .ensures)
+returns-2 c = clear-leaves _ (cond-yes _ _ (whole (c .before)) (c .accepted .ensures))
 
 pub clear-spec : {M : Type 1} → statement M
 clear-spec =

@@ -1,3 +1,4 @@
+use Rattle.board.proofs.call.Leaving.{clock-leaves}
 use Rattle.board.proofs.Board.clock_and_held.Statement.{statement}
 use Rattle.board.proofs.Board.clock_and_held.Tie as tie
 use Rattle.board.specs.Query.{clockOf}
@@ -20,11 +21,11 @@ unbroken-requires c κs = search needs
 
 returns : tie.Need-returns
 unfolding clockOf
-returns c = cond-no _ _ (sym (c .before .unbroken .ensures) ∙ not-true _ (c .if1 .taken)) refl
+returns c = clock-leaves _ (cond-no _ _ (sym (c .before .unbroken .ensures) ∙ not-true _ (c .if1 .taken)) refl)
 
 returns-2 : tie.Need-returns-2
 unfolding clockOf
-returns-2 c = cond-yes _ _ (whole (c .before)) refl
+returns-2 c = clock-leaves _ (cond-yes _ _ (whole (c .before)) refl)
 
 pub clock-and-held-spec : {M : Type 1} → statement M
 clock-and-held-spec = tie.close (tie.spec unbroken-requires returns returns-2)

@@ -1,3 +1,4 @@
+use Rattle.board.proofs.call.Leaving.{drop-point-leaves}
 use Prim.Native.Nat.{_<_, _≤_}
 use Rattle.board.proofs.Board.drop_point.Statement.{statement}
 use Rattle.board.proofs.Board.drop_point.Tie as tie
@@ -54,7 +55,7 @@ refused-requires c κs = search needs
 
 returns : tie.Need-returns
 unfolding dropPoint
-returns c = cond-no _ _ (sym (c .before .before .unbroken .ensures) ∙ not-true _ (c .before .if1 .taken)) (c .refused .ensures)
+returns c = drop-point-leaves _ _ _ (cond-no _ _ (sym (c .before .before .unbroken .ensures) ∙ not-true _ (c .before .if1 .taken)) (c .refused .ensures))
 
 found-requires : tie.Need-found-requires
 found-requires c κs = search needs
@@ -70,9 +71,8 @@ refused-requires-2 c κs = search needs
 
 returns-2 : tie.Need-returns-2
 unfolding dropPoint
-returns-2 c =
-    cond-yes _ _ (whole (c .before .before .before .before))
-    (natural-out _ _ _ (told (foundIn (c .before .before .before .before .before .before .before .before .before .before .before .before .before .args .t1 .present)) (c .before .before .before .before .before .before .before .before .before .before .before .before .before .fits .track) (c .before .before .before .found .ensures) (c .before .enum-told .given .1)) (c .refused2 .ensures))
+returns-2 c = drop-point-leaves _ _ _ (cond-yes _ _ (whole (c .before .before .before .before))
+    (natural-out _ _ _ (told (foundIn (c .before .before .before .before .before .before .before .before .before .before .before .before .before .args .t1 .present)) (c .before .before .before .before .before .before .before .before .before .before .before .before .before .fits .track) (c .before .before .before .found .ensures) (c .before .enum-told .given .1)) (c .refused2 .ensures)))
 
 cast-at : tie.Need-cast-at
 cast-at c = search needs
@@ -91,8 +91,7 @@ refused-requires-3 c κs = search needs
 
 returns-3 : tie.Need-returns-3
 unfolding dropPoint
-returns-3 c =
-    cond-yes _ _ (whole (c .before .before .before .before .before .before .before .before)) (natural-take _ _ _ (number (c .before .before .before .before .before)) (cond-no _ _ (sym (c .before .before .settled .ensures) ∙ not-true _ (c .before .if2 .taken)) (c .refused3 .ensures)))
+returns-3 c = drop-point-leaves _ _ _ (cond-yes _ _ (whole (c .before .before .before .before .before .before .before .before)) (natural-take _ _ _ (number (c .before .before .before .before .before)) (cond-no _ _ (sym (c .before .before .settled .ensures) ∙ not-true _ (c .before .if2 .taken)) (c .refused3 .ensures))))
 
 of-requires : tie.Need-of-requires
 of-requires c κs = search needs
@@ -108,9 +107,8 @@ refused-requires-4 c κs = search needs
 
 returns-4 : tie.Need-returns-4
 unfolding dropPoint
-returns-4 c =
-    cond-yes _ _ (whole (c .before .before .before .before .before .before .before .before .before .before .before)) (natural-take _ _ _ (number (c .before .before .before .before .before .before .before .before)) (cond-yes _ _ (sym (c .before .before .before .before .before .settled .ensures) ∙ not-false _ (c .before .before .before .before .if2 .left))
-    (place-out _ _ _ (told coordinateOf (c .before .before .before .before .before .before .before .before .before .before .before .before .before .before .before .before .before .before .before .before .fits .position) (c .before .before .before .of .ensures) (c .before .enum-told2 .given .1)) (c .refused4 .ensures))))
+returns-4 c = drop-point-leaves _ _ _ (cond-yes _ _ (whole (c .before .before .before .before .before .before .before .before .before .before .before)) (natural-take _ _ _ (number (c .before .before .before .before .before .before .before .before)) (cond-yes _ _ (sym (c .before .before .before .before .before .settled .ensures) ∙ not-false _ (c .before .before .before .before .if2 .left))
+    (place-out _ _ _ (told coordinateOf (c .before .before .before .before .before .before .before .before .before .before .before .before .before .before .before .before .before .before .before .before .fits .position) (c .before .before .before .of .ensures) (c .before .enum-told2 .given .1)) (c .refused4 .ensures)))))
 
 mul-dropped : tie.Need-mul-dropped
 mul-dropped c = let l = small (c .before .before .before .before .before .before .before .before .before) in omega arith
@@ -126,18 +124,16 @@ refused-requires-5 c κs = search needs
 
 returns-5 : tie.Need-returns-5
 unfolding dropPoint
-returns-5 c =
-    cond-yes _ _ (whole (c .before .before .before .before .before .before .before .before .before .before .before .before .before .before .before .before .before)) (natural-take _ _ _ (number (c .before .before .before .before .before .before .before .before .before .before .before .before .before .before)) (cond-yes _ _ (sym (c .before .before .before .before .before .before .before .before .before .before .before .settled .ensures) ∙ not-false _ (c .before .before .before .before .before .before .before .before .before .before .if2 .left))
-    (place-take _ _ _ (spot (c .before .before .before .before .before .before .before)) (points-refused (c .before .before .before .before .before .before .before .before .before .before .before .before .before .before .before .before .before .before .before .before .before .before .before .before .before .before .args .t1) 4 (c .before .before .before .dropped .ensures) (not-true _ (c .before .if3 .taken)) (c .refused5 .ensures)))))
+returns-5 c = drop-point-leaves _ _ _ (cond-yes _ _ (whole (c .before .before .before .before .before .before .before .before .before .before .before .before .before .before .before .before .before)) (natural-take _ _ _ (number (c .before .before .before .before .before .before .before .before .before .before .before .before .before .before)) (cond-yes _ _ (sym (c .before .before .before .before .before .before .before .before .before .before .before .settled .ensures) ∙ not-false _ (c .before .before .before .before .before .before .before .before .before .before .if2 .left))
+    (place-take _ _ _ (spot (c .before .before .before .before .before .before .before)) (points-refused (c .before .before .before .before .before .before .before .before .before .before .before .before .before .before .before .before .before .before .before .before .before .before .before .before .before .before .args .t1) 4 (c .before .before .before .dropped .ensures) (not-true _ (c .before .if3 .taken)) (c .refused5 .ensures))))))
 
 accepted-requires : tie.Need-accepted-requires
 accepted-requires c κs = search needs
 
 returns-6 : tie.Need-returns-6
 unfolding dropPoint
-returns-6 c =
-    cond-yes _ _ (whole (c .before .before .before .before .before .before .before .before .before .before .before .before .before .before .before .before .before .before)) (natural-take _ _ _ (number (c .before .before .before .before .before .before .before .before .before .before .before .before .before .before .before)) (cond-yes _ _ (sym (c .before .before .before .before .before .before .before .before .before .before .before .before .settled .ensures) ∙ not-false _ (c .before .before .before .before .before .before .before .before .before .before .before .if2 .left))
-    (place-take _ _ _ (spot (c .before .before .before .before .before .before .before .before)) (points-put (c .before .before .before .before .before .before .before .before .before .before .before .before .before .before .before .before .before .before .before .before .before .before .before .before .before .before .before .args .t1) 4 (c .before .before .before .before .dropped .ensures) (not-false _ (c .before .before .if3 .left)) (c .accepted .ensures)))))
+returns-6 c = drop-point-leaves _ _ _ (cond-yes _ _ (whole (c .before .before .before .before .before .before .before .before .before .before .before .before .before .before .before .before .before .before)) (natural-take _ _ _ (number (c .before .before .before .before .before .before .before .before .before .before .before .before .before .before .before)) (cond-yes _ _ (sym (c .before .before .before .before .before .before .before .before .before .before .before .before .settled .ensures) ∙ not-false _ (c .before .before .before .before .before .before .before .before .before .before .before .if2 .left))
+    (place-take _ _ _ (spot (c .before .before .before .before .before .before .before .before)) (points-put (c .before .before .before .before .before .before .before .before .before .before .before .before .before .before .before .before .before .before .before .before .before .before .before .before .before .before .before .args .t1) 4 (c .before .before .before .before .dropped .ensures) (not-false _ (c .before .before .if3 .left)) (c .accepted .ensures))))))
 
 pub drop-point-spec : {M : Type 1} → statement M
 drop-point-spec =

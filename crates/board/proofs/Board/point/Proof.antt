@@ -1,3 +1,4 @@
+use Rattle.board.proofs.call.Leaving.{point-leaves}
 use Prim.Native.Nat.{_<_, _≤_}
 use Rattle.board.proofs.Board.point.Statement.{statement}
 use Rattle.board.proofs.Board.point.Tie as tie
@@ -50,7 +51,7 @@ unbroken-requires c κs = search needs
 
 returns : tie.Need-returns
 unfolding pointIn
-returns c = cond-no _ _ (sym (c .before .unbroken .ensures) ∙ not-true _ (c .if1 .taken)) refl
+returns c = point-leaves _ _ _ (cond-no _ _ (sym (c .before .unbroken .ensures) ∙ not-true _ (c .if1 .taken)) refl)
 
 found-requires : tie.Need-found-requires
 found-requires c κs = search needs
@@ -63,9 +64,8 @@ enum-told c = search needs
 
 returns-2 : tie.Need-returns-2
 unfolding pointIn
-returns-2 c =
-    cond-yes _ _ (whole (c .before .before .before))
-    (natural-out _ _ _ (told (foundIn (c .before .before .before .before .before .before .before .before .before .before .before .before .args .t1 .present)) (c .before .before .before .before .before .before .before .before .before .before .before .before .fits .track) (c .before .before .found .ensures) (c .enum-told .given .1)) refl)
+returns-2 c = point-leaves _ _ _ (cond-yes _ _ (whole (c .before .before .before))
+    (natural-out _ _ _ (told (foundIn (c .before .before .before .before .before .before .before .before .before .before .before .before .args .t1 .present)) (c .before .before .before .before .before .before .before .before .before .before .before .before .fits .track) (c .before .before .found .ensures) (c .enum-told .given .1)) refl))
 
 of-requires : tie.Need-of-requires
 of-requires c κs = search needs
@@ -78,10 +78,9 @@ enum-told-2 c = search needs
 
 returns-3 : tie.Need-returns-3
 unfolding pointIn
-returns-3 c =
-    cond-yes _ _ (whole (c .before .before .before .before .before .before .before))
+returns-3 c = point-leaves _ _ _ (cond-yes _ _ (whole (c .before .before .before .before .before .before .before))
     (natural-take _ _ _ (number (c .before .before .before .before))
-    (place-out _ _ _ (told coordinateOf (c .before .before .before .before .before .before .before .before .before .before .before .before .before .before .before .before .fits .position) (c .before .before .of .ensures) (c .enum-told2 .given .1)) refl))
+    (place-out _ _ _ (told coordinateOf (c .before .before .before .before .before .before .before .before .before .before .before .before .before .before .before .before .fits .position) (c .before .before .of .ensures) (c .enum-told2 .given .1)) refl)))
 
 mul-wanted : tie.Need-mul-wanted
 mul-wanted c = let l = small (c .before .before .before .before .before) in omega arith
@@ -94,9 +93,8 @@ info-at-requires c κs = let u = kept (c .before .before .before .before .before
 
 returns-4 : tie.Need-returns-4
 unfolding pointIn
-returns-4 c =
-    cond-yes _ _ (whole (c .before .before .before .before .before .before .before .before .before .before .before .before .before .before .before .before))
-    (natural-take _ _ _ (number (c .before .before .before .before .before .before .before .before .before .before .before .before .before)) (place-take _ _ _ (spot (c .before .before .before .before .before .before .before .before .before)) (point-absent _ (c .before .info-at .ensures) (c .if2 .taken))))
+returns-4 c = point-leaves _ _ _ (cond-yes _ _ (whole (c .before .before .before .before .before .before .before .before .before .before .before .before .before .before .before .before))
+    (natural-take _ _ _ (number (c .before .before .before .before .before .before .before .before .before .before .before .before .before)) (place-take _ _ _ (spot (c .before .before .before .before .before .before .before .before .before)) (point-absent _ (c .before .info-at .ensures) (c .if2 .taken)))))
 
 of-requires-2 : tie.Need-of-requires-2
 of-requires-2 c κs =
@@ -106,9 +104,8 @@ of-requires-2 c κs =
 
 returns-5 : tie.Need-returns-5
 unfolding pointIn
-returns-5 c =
-    cond-yes _ _ (whole (c .before .before .before .before .before .before .before .before .before .before .before .before .before .before .before .before .before))
-    (natural-take _ _ _ (number (c .before .before .before .before .before .before .before .before .before .before .before .before .before .before)) (place-take _ _ _ (spot (c .before .before .before .before .before .before .before .before .before .before)) (point-shown _ (c .before .before .info-at .ensures) (c .before .if2 .left) (c .of2 .ensures))))
+returns-5 c = point-leaves _ _ _ (cond-yes _ _ (whole (c .before .before .before .before .before .before .before .before .before .before .before .before .before .before .before .before .before))
+    (natural-take _ _ _ (number (c .before .before .before .before .before .before .before .before .before .before .before .before .before .before)) (place-take _ _ _ (spot (c .before .before .before .before .before .before .before .before .before .before)) (point-shown _ (c .before .before .info-at .ensures) (c .before .if2 .left) (c .of2 .ensures)))))
 
 pub point-spec : {M : Type 1} → statement M
 point-spec =

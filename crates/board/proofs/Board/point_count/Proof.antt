@@ -1,3 +1,4 @@
+use Rattle.board.proofs.call.Leaving.{point-count-leaves}
 use Prim.Native.Nat.{_<_}
 use Rattle.board.proofs.Board.point_count.Statement.{statement}
 use Rattle.board.proofs.Board.point_count.Tie as tie
@@ -43,7 +44,7 @@ unbroken-requires c κs = search needs
 
 returns : tie.Need-returns
 unfolding countIn
-returns c = cond-no _ _ (sym (c .before .unbroken .ensures) ∙ not-true _ (c .if1 .taken)) refl
+returns c = point-count-leaves _ _ _ _ (cond-no _ _ (sym (c .before .unbroken .ensures) ∙ not-true _ (c .if1 .taken)) refl)
 
 found-requires : tie.Need-found-requires
 found-requires c κs = search needs
@@ -56,9 +57,8 @@ enum-told c = search needs
 
 returns-2 : tie.Need-returns-2
 unfolding countIn
-returns-2 c =
-    cond-yes _ _ (whole (c .before .before .before))
-    (natural-out _ _ _ (told (foundIn (c .before .before .before .before .before .before .before .before .before .before .before .before .args .t1 .present)) (c .before .before .before .before .before .before .before .before .before .before .before .before .fits .track) (c .before .before .found .ensures) (c .enum-told .given .1)) refl)
+returns-2 c = point-count-leaves _ _ _ _ (cond-yes _ _ (whole (c .before .before .before))
+    (natural-out _ _ _ (told (foundIn (c .before .before .before .before .before .before .before .before .before .before .before .before .args .t1 .present)) (c .before .before .before .before .before .before .before .before .before .before .before .before .fits .track) (c .before .before .found .ensures) (c .enum-told .given .1)) refl))
 
 mul-base : tie.Need-mul-base
 mul-base c = let l = small (c .before) in omega arith
@@ -83,11 +83,10 @@ count-between-requires c κs = let u = kept (c .before .before .before .before .
 
 returns-3 : tie.Need-returns-3
 unfolding countIn
-returns-3 c =
-    cond-yes _ _ (whole (c .before .before .before .before .before .before .before .before .before .before .before))
+returns-3 c = point-count-leaves _ _ _ _ (cond-yes _ _ (whole (c .before .before .before .before .before .before .before .before .before .before .before))
     (natural-take _ _ _ (number (c .before .before .before .before .before .before .before .before))
     (ap Count (counted _ (kept (c .before .before .before .before .before .before .before .before .before .before .before)) _ _ _ (c .before .before .before .before .before .clamped2 .ensures ∙ ap clampedOf (toZ-ofZ (c .before .before .before .before .before .before .before .before .before .before .before .before .before .before .before .before .before .before .before .before .fits .from))) (c .before .before .before .before .before2 .ensures)
-    (c .before .before .before .before .before .before .clamped .ensures ∙ ap clampedOf (toZ-ofZ (c .before .before .before .before .before .before .before .before .before .before .before .before .before .before .before .before .before .before .before .before .fits .to))) (c .count-between .ensures))))
+    (c .before .before .before .before .before .before .clamped .ensures ∙ ap clampedOf (toZ-ofZ (c .before .before .before .before .before .before .before .before .before .before .before .before .before .before .before .before .before .before .before .before .fits .to))) (c .count-between .ensures)))))
 
 pub point-count-spec : {M : Type 1} → statement M
 point-count-spec =

@@ -1,3 +1,4 @@
+use Rattle.board.proofs.call.Leaving.{set-point-leaves}
 use Prim.Native.Nat.{_<_, _≤_}
 use Rattle.board.proofs.Board.set_point.Statement.{statement}
 use Rattle.board.proofs.Board.set_point.Tie as tie
@@ -66,7 +67,7 @@ refused-requires c κs = search needs
 
 returns : tie.Need-returns
 unfolding setPoint
-returns c = cond-no _ _ (sym (c .before .before .unbroken .ensures) ∙ not-true _ (c .before .if1 .taken)) (c .refused .ensures)
+returns c = set-point-leaves _ _ _ _ _ _ _ (cond-no _ _ (sym (c .before .before .unbroken .ensures) ∙ not-true _ (c .before .if1 .taken)) (c .refused .ensures))
 
 found-requires : tie.Need-found-requires
 found-requires c κs = search needs
@@ -82,9 +83,8 @@ refused-requires-2 c κs = search needs
 
 returns-2 : tie.Need-returns-2
 unfolding setPoint
-returns-2 c =
-    cond-yes _ _ (whole (c .before .before .before .before))
-    (natural-out _ _ _ (told (foundIn (c .before .before .before .before .before .before .before .before .before .before .before .before .before .args .t1 .present)) (c .before .before .before .before .before .before .before .before .before .before .before .before .before .fits .track) (c .before .before .before .found .ensures) (c .before .enum-told .given .1)) (c .refused2 .ensures))
+returns-2 c = set-point-leaves _ _ _ _ _ _ _ (cond-yes _ _ (whole (c .before .before .before .before))
+    (natural-out _ _ _ (told (foundIn (c .before .before .before .before .before .before .before .before .before .before .before .before .before .args .t1 .present)) (c .before .before .before .before .before .before .before .before .before .before .before .before .before .fits .track) (c .before .before .before .found .ensures) (c .before .enum-told .given .1)) (c .refused2 .ensures)))
 
 cast-owner : tie.Need-cast-owner
 cast-owner c = search needs
@@ -103,8 +103,7 @@ refused-requires-3 c κs = search needs
 
 returns-3 : tie.Need-returns-3
 unfolding setPoint
-returns-3 c =
-    cond-yes _ _ (whole (c .before .before .before .before .before .before .before .before)) (natural-take _ _ _ (number (c .before .before .before .before .before)) (cond-no _ _ (sym (c .before .before .settled .ensures) ∙ not-true _ (c .before .if2 .taken)) (c .refused3 .ensures)))
+returns-3 c = set-point-leaves _ _ _ _ _ _ _ (cond-yes _ _ (whole (c .before .before .before .before .before .before .before .before)) (natural-take _ _ _ (number (c .before .before .before .before .before)) (cond-no _ _ (sym (c .before .before .settled .ensures) ∙ not-true _ (c .before .if2 .taken)) (c .refused3 .ensures))))
 
 cast-draw : tie.Need-cast-draw
 cast-draw c = record { fits = (let l = small (c .before .before .before .before) in omega arith) }
@@ -125,9 +124,9 @@ returns-4 : tie.Need-returns-4
 unfolding setPoint
 returns-4 c =
     let f = c .before .before .before .before .before .before .before .before .before .before .before .before .before .before .before .before .before .before .before .before .fits in
-    cond-yes _ _ (whole (c .before .before .before .before .before .before .before .before .before .before .before)) (natural-take _ _ _ (number (c .before .before .before .before .before .before .before .before)) (cond-yes _ _ (sym (c .before .before .before .before .before .settled .ensures) ∙ not-false _ (c .before .before .before .before .if2 .left))
+    set-point-leaves _ _ _ _ _ _ _ (cond-yes _ _ (whole (c .before .before .before .before .before .before .before .before .before .before .before)) (natural-take _ _ _ (number (c .before .before .before .before .before .before .before .before)) (cond-yes _ _ (sym (c .before .before .before .before .before .settled .ensures) ∙ not-false _ (c .before .before .before .before .if2 .left))
     (drawn-bad (c .before .before .before .before .before .before .before .before .before .before .before .before .before .before .before .before .before .before .before .before .args .t1)
-    (drawn-told _ _ _ (f .position) (f .event) (f .wait) (f .command) (f .target) (c .before .before .before .draw .ensures) (c .before .enum-told2 .given .1)) (c .refused4 .ensures))))
+    (drawn-told _ _ _ (f .position) (f .event) (f .wait) (f .command) (f .target) (c .before .before .before .draw .ensures) (c .before .enum-told2 .given .1)) (c .refused4 .ensures)))))
 
 key-requires : tie.Need-key-requires
 key-requires c κs = (present-small _ _ (ruled (c .before .before) .track), high (c .before .before))
@@ -143,20 +142,18 @@ refused-requires-5 c κs = search needs
 
 returns-5 : tie.Need-returns-5
 unfolding setPoint
-returns-5 c =
-    cond-yes _ _ (whole (c .before .before .before .before .before .before .before .before .before .before .before .before .before .before .before .before .before .before)) (natural-take _ _ _ (number (c .before .before .before .before .before .before .before .before .before .before .before .before .before .before .before)) (cond-yes _ _ (sym (c .before .before .before .before .before .before .before .before .before .before .before .before .settled .ensures) ∙ not-false _ (c .before .before .before .before .before .before .before .before .before .before .before .if2 .left))
+returns-5 c = set-point-leaves _ _ _ _ _ _ _ (cond-yes _ _ (whole (c .before .before .before .before .before .before .before .before .before .before .before .before .before .before .before .before .before .before)) (natural-take _ _ _ (number (c .before .before .before .before .before .before .before .before .before .before .before .before .before .before .before)) (cond-yes _ _ (sym (c .before .before .before .before .before .before .before .before .before .before .before .before .settled .ensures) ∙ not-false _ (c .before .before .before .before .before .before .before .before .before .before .before .if2 .left))
     (drawn-good (c .before .before .before .before .before .before .before .before .before .before .before .before .before .before .before .before .before .before .before .before .before .before .before .before .before .before .before .args .t1) (point (c .before .before .before .before .before .before .before .before))
-    (points-refused (c .before .before .before .before .before .before .before .before .before .before .before .before .before .before .before .before .before .before .before .before .before .before .before .before .before .before .before .args .t1) 5 (c .before .before .before .stored .ensures ∙ ap₂ (storedIn (c .before .before .before .before .before .before .before .before .before .before .before .before .before .before .before .before .before .before .before .before .before .before .before .before .before .before .before .args .t1 .points)) (c .before .before .before .before .before .key .ensures) (c .before .before .before .before .info .ensures)) (not-true _ (c .before .if3 .taken)) (c .refused5 .ensures)))))
+    (points-refused (c .before .before .before .before .before .before .before .before .before .before .before .before .before .before .before .before .before .before .before .before .before .before .before .before .before .before .before .args .t1) 5 (c .before .before .before .stored .ensures ∙ ap₂ (storedIn (c .before .before .before .before .before .before .before .before .before .before .before .before .before .before .before .before .before .before .before .before .before .before .before .before .before .before .before .args .t1 .points)) (c .before .before .before .before .before .key .ensures) (c .before .before .before .before .info .ensures)) (not-true _ (c .before .if3 .taken)) (c .refused5 .ensures))))))
 
 accepted-requires : tie.Need-accepted-requires
 accepted-requires c κs = search needs
 
 returns-6 : tie.Need-returns-6
 unfolding setPoint
-returns-6 c =
-    cond-yes _ _ (whole (c .before .before .before .before .before .before .before .before .before .before .before .before .before .before .before .before .before .before .before)) (natural-take _ _ _ (number (c .before .before .before .before .before .before .before .before .before .before .before .before .before .before .before .before)) (cond-yes _ _ (sym (c .before .before .before .before .before .before .before .before .before .before .before .before .before .settled .ensures) ∙ not-false _ (c .before .before .before .before .before .before .before .before .before .before .before .before .if2 .left))
+returns-6 c = set-point-leaves _ _ _ _ _ _ _ (cond-yes _ _ (whole (c .before .before .before .before .before .before .before .before .before .before .before .before .before .before .before .before .before .before .before)) (natural-take _ _ _ (number (c .before .before .before .before .before .before .before .before .before .before .before .before .before .before .before .before)) (cond-yes _ _ (sym (c .before .before .before .before .before .before .before .before .before .before .before .before .before .settled .ensures) ∙ not-false _ (c .before .before .before .before .before .before .before .before .before .before .before .before .if2 .left))
     (drawn-good (c .before .before .before .before .before .before .before .before .before .before .before .before .before .before .before .before .before .before .before .before .before .before .before .before .before .before .before .before .args .t1) (point (c .before .before .before .before .before .before .before .before .before))
-    (points-put (c .before .before .before .before .before .before .before .before .before .before .before .before .before .before .before .before .before .before .before .before .before .before .before .before .before .before .before .before .args .t1) 5 (c .before .before .before .before .stored .ensures ∙ ap₂ (storedIn (c .before .before .before .before .before .before .before .before .before .before .before .before .before .before .before .before .before .before .before .before .before .before .before .before .before .before .before .before .args .t1 .points)) (c .before .before .before .before .before .before .key .ensures) (c .before .before .before .before .before .info .ensures)) (not-false _ (c .before .before .if3 .left)) (c .accepted .ensures)))))
+    (points-put (c .before .before .before .before .before .before .before .before .before .before .before .before .before .before .before .before .before .before .before .before .before .before .before .before .before .before .before .before .args .t1) 5 (c .before .before .before .before .stored .ensures ∙ ap₂ (storedIn (c .before .before .before .before .before .before .before .before .before .before .before .before .before .before .before .before .before .before .before .before .before .before .before .before .before .before .before .before .args .t1 .points)) (c .before .before .before .before .before .before .key .ensures) (c .before .before .before .before .before .info .ensures)) (not-false _ (c .before .before .if3 .left)) (c .accepted .ensures))))))
 
 pub set-point-spec : {M : Type 1} → statement M
 set-point-spec =

@@ -1,3 +1,4 @@
+use Rattle.board.proofs.call.Leaving.{set-up-leaves}
 use Prim.Native.Nat.{_<_}
 use Rattle.board.proofs.Board.set_up.Statement.{statement}
 use Rattle.board.proofs.Board.set_up.Tie as tie
@@ -42,7 +43,7 @@ refused-requires c κs = search needs
 
 returns : tie.Need-returns
 unfolding setUp
-returns c = cond-no _ _ (sym (c .before .before .unbroken .ensures) ∙ not-true _ (c .before .if1 .taken)) (c .refused .ensures)
+returns c = set-up-leaves _ _ _ (cond-no _ _ (sym (c .before .before .unbroken .ensures) ∙ not-true _ (c .before .if1 .taken)) (c .refused .ensures))
 
 found-requires : tie.Need-found-requires
 found-requires c κs = search needs
@@ -58,9 +59,8 @@ refused-requires-2 c κs = search needs
 
 returns-2 : tie.Need-returns-2
 unfolding setUp
-returns-2 c =
-    cond-yes _ _ (whole (c .before .before .before .before))
-    (natural-out _ _ _ (told (foundIn (c .before .before .before .before .before .before .before .before .before .before .before .before .before .args .t1 .present)) (c .before .before .before .before .before .before .before .before .before .before .before .before .before .fits .track) (c .before .before .before .found .ensures) (c .before .enum-told .given .1)) (c .refused2 .ensures))
+returns-2 c = set-up-leaves _ _ _ (cond-yes _ _ (whole (c .before .before .before .before))
+    (natural-out _ _ _ (told (foundIn (c .before .before .before .before .before .before .before .before .before .before .before .before .before .args .t1 .present)) (c .before .before .before .before .before .before .before .before .before .before .before .before .before .fits .track) (c .before .before .before .found .ensures) (c .before .enum-told .given .1)) (c .refused2 .ensures)))
 
 cast-at : tie.Need-cast-at
 cast-at c = search needs
@@ -82,8 +82,7 @@ element-set-from-after c = let l = small (c .before .before .before .before) in 
 
 returns-3 : tie.Need-returns-3
 unfolding setUp
-returns-3 c =
-    cond-yes _ _ (whole (c .before .before .before .before .before .before .before)) (natural-take _ _ _ (number (c .before .before .before .before)) (ap (putTrack (c .before .before .before .before .before .before .before .before .before .before .before .before .before .before .before .before .args .t1) (c .before .before .before .before .i .given .0 .0)) (c .before .changed .ensures)))
+returns-3 c = set-up-leaves _ _ _ (cond-yes _ _ (whole (c .before .before .before .before .before .before .before)) (natural-take _ _ _ (number (c .before .before .before .before)) (ap (putTrack (c .before .before .before .before .before .before .before .before .before .before .before .before .before .before .before .before .args .t1) (c .before .before .before .before .i .given .0 .0)) (c .before .changed .ensures))))
 
 pub set-up-spec : {M : Type 1} → statement M
 set-up-spec =

@@ -1,3 +1,4 @@
+use Rattle.board.proofs.call.Leaving.{track-leaves}
 use Prim.Native.Nat.{_<_}
 use Rattle.board.proofs.Board.track.Statement.{statement}
 use Rattle.board.proofs.Board.track.Tie as tie
@@ -44,9 +45,8 @@ unbroken-requires c κs = search needs
 
 returns : tie.Need-returns
 unfolding trackOf
-returns c =
-    cond-no _ _ (sym (c .before .unbroken .ensures) ∙ not-true _ (c .if1 .taken))
-    (ap (λ (t : Track). record { answer = Refused 3; track = t }) (c .before .before .before .before .before .before .before .before .new .ensures))
+returns c = track-leaves _ _ (cond-no _ _ (sym (c .before .unbroken .ensures) ∙ not-true _ (c .if1 .taken))
+    (ap (λ (t : Track). record { answer = Refused 3; track = t }) (c .before .before .before .before .before .before .before .before .new .ensures)))
 
 found-requires : tie.Need-found-requires
 found-requires c κs = search needs
@@ -59,10 +59,9 @@ enum-told c = search needs
 
 returns-2 : tie.Need-returns-2
 unfolding trackOf
-returns-2 c =
-    cond-yes _ _ (whole (c .before .before .before))
+returns-2 c = track-leaves _ _ (cond-yes _ _ (whole (c .before .before .before))
     (natural-out _ _ _ (told (foundIn (c .before .before .before .before .before .before .before .before .before .before .before .before .before .args .t1 .present)) (c .before .before .before .before .before .before .before .before .before .before .before .before .before .fits .track) (c .before .before .found .ensures) (c .enum-told .given .1))
-    (ap (λ (t : Track). record { answer = Refused 1; track = t }) (c .before .before .before .before .before .before .before .before .before .before .before .new .ensures)))
+    (ap (λ (t : Track). record { answer = Refused 1; track = t }) (c .before .before .before .before .before .before .before .before .before .before .before .new .ensures))))
 
 cast-at : tie.Need-cast-at
 cast-at c = search needs
@@ -75,7 +74,7 @@ array-copy-out-read c = let l = small (c .before) in let s = kept (c .before .be
 
 returns-3 : tie.Need-returns-3
 unfolding trackOf
-returns-3 c = cond-yes _ _ (whole (c .before .before .before .before .before)) (natural-take _ _ _ (number (c .before .before)) refl)
+returns-3 c = track-leaves _ _ (cond-yes _ _ (whole (c .before .before .before .before .before)) (natural-take _ _ _ (number (c .before .before)) refl))
 
 pub track-spec : {M : Type 1} → statement M
 track-spec =

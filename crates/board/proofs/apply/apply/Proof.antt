@@ -1,5 +1,4 @@
-use Rattle.board.proofs.apply.Applying.{applied, passed, add-track-gives, set-up-gives, set-point-gives, drop-point-gives, clear-gives}
-use Rattle.board.proofs.apply.Applying.{clock-gives, track-gives, point-gives, point-count-gives}
+use Rattle.board.proofs.apply.Applying.{applied, passed}
 use Rattle.board.specs.declared.call.Call.the-variants as call
 use mathlib.Core.Path.{_∙_}
 use borrow.Author.Needs.{needs}
@@ -133,16 +132,16 @@ count-requires : tie.Need-count-requires
 count-requires c κs = search needs
 
 returns : tie.Need-returns
-returns c = let k = c .before .before .before .c .given in let g = c .before .before .known-told .given in applied _ (k .1 ∙ (λ j. call.AddTrack (passed (k .0 .0) (g .0 .1) j) (passed (k .0 .1 .0) (g .1 .0 .1) j) (passed (k .0 .1 .1 .0) (g .1 .1 .0 .1) j))) (add-track-gives _ _ _ _ _ (c .before .add-track .ensures)) (c .outcome .ensures)
+returns c = let k = c .before .before .before .c .given in let g = c .before .before .known-told .given in applied _ (k .1 ∙ (λ j. call.AddTrack (passed (k .0 .0) (g .0 .1) j) (passed (k .0 .1 .0) (g .1 .0 .1) j) (passed (k .0 .1 .1 .0) (g .1 .1 .0 .1) j))) (c .before .add-track .ensures _) (c .outcome .ensures)
 
 returns-2 : tie.Need-returns-2
-returns-2 c = let k = c .before .before .before .c2 .given in let g = c .before .before .known-told2 .given in applied _ (k .1 ∙ (λ j. call.SetUp (passed (k .0 .0) (g .0 .1) j) (k .0 .1 .0))) (set-up-gives _ _ _ _ (c .before .set-up .ensures)) (c .outcome2 .ensures)
+returns-2 c = let k = c .before .before .before .c2 .given in let g = c .before .before .known-told2 .given in applied _ (k .1 ∙ (λ j. call.SetUp (passed (k .0 .0) (g .0 .1) j) (k .0 .1 .0))) (c .before .set-up .ensures _) (c .outcome2 .ensures)
 
 returns-3 : tie.Need-returns-3
-returns-3 c = let k = c .before .before .before .c3 .given in let g = c .before .before .known-told3 .given in applied _ (k .1 ∙ (λ j. call.SetPoint (passed (k .0 .0) (g .0 .1) j) (passed (k .0 .1 .0) (g .1 .0 .1) j) (passed (k .0 .1 .1 .0) (g .1 .1 .0 .1) j) (passed (k .0 .1 .1 .1 .0) (g .1 .1 .1 .0 .1) j) (passed (k .0 .1 .1 .1 .1 .0) (g .1 .1 .1 .1 .0 .1) j) (passed (k .0 .1 .1 .1 .1 .1 .0) (g .1 .1 .1 .1 .1 .0 .1) j))) (set-point-gives _ _ _ _ _ _ _ _ (c .before .set-point .ensures)) (c .outcome3 .ensures)
+returns-3 c = let k = c .before .before .before .c3 .given in let g = c .before .before .known-told3 .given in applied _ (k .1 ∙ (λ j. call.SetPoint (passed (k .0 .0) (g .0 .1) j) (passed (k .0 .1 .0) (g .1 .0 .1) j) (passed (k .0 .1 .1 .0) (g .1 .1 .0 .1) j) (passed (k .0 .1 .1 .1 .0) (g .1 .1 .1 .0 .1) j) (passed (k .0 .1 .1 .1 .1 .0) (g .1 .1 .1 .1 .0 .1) j) (passed (k .0 .1 .1 .1 .1 .1 .0) (g .1 .1 .1 .1 .1 .0 .1) j))) (c .before .set-point .ensures _) (c .outcome3 .ensures)
 
 returns-4 : tie.Need-returns-4
-returns-4 c = let k = c .before .before .before .c4 .given in let g = c .before .before .known-told4 .given in applied _ (k .1 ∙ (λ j. call.DropPoint (passed (k .0 .0) (g .0 .1) j) (passed (k .0 .1 .0) (g .1 .0 .1) j))) (drop-point-gives _ _ _ _ (c .before .drop-point .ensures)) (c .outcome4 .ensures)
+returns-4 c = let k = c .before .before .before .c4 .given in let g = c .before .before .known-told4 .given in applied _ (k .1 ∙ (λ j. call.DropPoint (passed (k .0 .0) (g .0 .1) j) (passed (k .0 .1 .0) (g .1 .0 .1) j))) (c .before .drop-point .ensures _) (c .outcome4 .ensures)
 
 same-length : tie.Need-same-length
 same-length c = search needs
@@ -175,19 +174,19 @@ returns-9 : tie.Need-returns-9
 returns-9 c = let k = c .before .before .before .before .before .before .c9 .given in let g = c .before .before .before .before .before .known-told9 .given in applied _ (k .1 ∙ (λ j. call.Advance (passed (k .0 .0) (g .0 .1) j))) (c .before .before .before .advance .ensures) (c .progress .ensures)
 
 returns-10 : tie.Need-returns-10
-returns-10 c = applied _ (c .before .before .enum-told .given .1) (clear-gives _ _ (c .before .clear .ensures)) (c .outcome9 .ensures)
+returns-10 c = applied _ (c .before .before .enum-told .given .1) (c .before .clear .ensures _) (c .outcome9 .ensures)
 
 returns-11 : tie.Need-returns-11
-returns-11 c = applied _ (c .before .before .enum-told2 .given .1) (clock-gives _ _ (c .before .clock-and-held .ensures)) (c .clock .ensures)
+returns-11 c = applied _ (c .before .before .enum-told2 .given .1) (c .before .clock-and-held .ensures _) (c .clock .ensures)
 
 returns-12 : tie.Need-returns-12
-returns-12 c = let k = c .before .before .before .c10 .given in let g = c .before .before .known-told10 .given in applied _ (k .1 ∙ (λ j. call.Track (passed (k .0 .0) (g .0 .1) j))) (track-gives _ _ _ (c .before .track .ensures)) (c .track2 .ensures)
+returns-12 c = let k = c .before .before .before .c10 .given in let g = c .before .before .known-told10 .given in applied _ (k .1 ∙ (λ j. call.Track (passed (k .0 .0) (g .0 .1) j))) (c .before .track .ensures _) (c .track2 .ensures)
 
 returns-13 : tie.Need-returns-13
-returns-13 c = let k = c .before .before .before .c11 .given in let g = c .before .before .known-told11 .given in applied _ (k .1 ∙ (λ j. call.Point (passed (k .0 .0) (g .0 .1) j) (passed (k .0 .1 .0) (g .1 .0 .1) j))) (point-gives _ _ _ _ (c .before .point .ensures)) (c .point2 .ensures)
+returns-13 c = let k = c .before .before .before .c11 .given in let g = c .before .before .known-told11 .given in applied _ (k .1 ∙ (λ j. call.Point (passed (k .0 .0) (g .0 .1) j) (passed (k .0 .1 .0) (g .1 .0 .1) j))) (c .before .point .ensures _) (c .point2 .ensures)
 
 returns-14 : tie.Need-returns-14
-returns-14 c = let k = c .before .before .before .c12 .given in let g = c .before .before .known-told12 .given in applied _ (k .1 ∙ (λ j. call.PointCount (passed (k .0 .0) (g .0 .1) j) (passed (k .0 .1 .0) (g .1 .0 .1) j) (passed (k .0 .1 .1 .0) (g .1 .1 .0 .1) j))) (point-count-gives _ _ _ _ _ (c .before .point-count .ensures)) (c .count .ensures)
+returns-14 c = let k = c .before .before .before .c12 .given in let g = c .before .before .known-told12 .given in applied _ (k .1 ∙ (λ j. call.PointCount (passed (k .0 .0) (g .0 .1) j) (passed (k .0 .1 .0) (g .1 .0 .1) j) (passed (k .0 .1 .1 .0) (g .1 .1 .0 .1) j))) (c .before .point-count .ensures _) (c .count .ensures)
 
 pub apply-spec : {M : Type 1} → statement M
 apply-spec =

@@ -8,10 +8,10 @@ add-result : tie.Need-add-result
 add-result c = search needs
 
 returns : tie.Need-returns
-returns c = twos-low _ (c .if1 .taken)
+returns c = twos-low (c .before .args .c) (c .if1 .taken)
 
 returns-2 : tie.Need-returns-2
-returns-2 c = twos-high _ (c .if1 .left) (omega arith)
+returns-2 c = twos-high (c .before .args .c) (c .if1 .left) (omega arith)
 
 pub twos-spec : {M : Type 1} → statement M
 twos-spec = tie.close (tie.spec add-result returns returns-2)

@@ -40,7 +40,7 @@ shared-slice-read-t16 c = search needs
 
 returns-3 : tie.Need-returns-3
 returns-3 c =
-    unpack-held (c .before .before .before .before .before .before .before .before .before .before .before .before .args .s .now) (c .before .before .before .before .before .before .before .before .before .before .if1 .left) (sym (c .before .before .before .before .before .before .before .before .kind-known .ensures) ∙ not-false _ (c .before .before .before .before .before .before .before .if2 .left)) (c .before .before .before .before .before .before .word .ensures)
+    unpack-held (c .before .before .before .before .before .before .before .before .before .before .before .before .args .s .now) (c .before .before .before .before .coordinate-of .result) (c .before .before .before .before .before .before .before .before .before .before .if1 .left) (sym (c .before .before .before .before .before .before .before .before .kind-known .ensures) ∙ not-false _ (c .before .before .before .before .before .before .before .if2 .left)) (c .before .before .before .before .before .before .word .ensures)
     (c .before .before .before .before .before .word2 .ensures) (c .before .before .before .before .coordinate-of .ensures) (c .before .before .before .word3 .ensures)
 
 pub unpack-spec : {M : Type 1} → statement M

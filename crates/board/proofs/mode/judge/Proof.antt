@@ -4,7 +4,7 @@ use Rattle.board.proofs.mode.judge.Tie as tie
 use Rattle.board.proofs.rules.Broken.{unbroken-of, present-small}
 use Rattle.board.proofs.tick.Commands.{Goes?, grid-goes}
 use Rattle.board.proofs.rules.Present.{found-in}
-use Rattle.board.proofs.mode.Rulings.{follows-declined, follows-silent, follows-noted, follows-full, changed-with, unmoved}
+use Rattle.board.proofs.mode.Rulings.{ruling-gives, follows-declined, follows-silent, follows-noted, follows-full, changed-with, unmoved}
 use Rattle.board.specs.declared.Board.{Board}
 use Rattle.board.specs.Board.{foundIn, unbrokenTest, Unbroken, trackAt, boardOf}
 use Rattle.board.specs.declared.mode.Ruled.{Ruled}
@@ -85,7 +85,7 @@ returns : tie.Need-returns
 unfolding modeRuling
 returns c =
     let b = board (c .before .before .before .before .before .before .before) in (
-      follows-declined 3 b _ (cond-no _ _ (sym (c .before .before .unbroken .ensures) ∙ not-true _ (c .before .if1 .taken)) refl) (unmoved 3 b (c .declined .ensures)),
+      ruling-gives b _ _ _ (follows-declined 3 b _ (cond-no _ _ (sym (c .before .before .unbroken .ensures) ∙ not-true _ (c .before .if1 .taken)) refl) (unmoved 3 b (c .declined .ensures))),
       omega (arith, ap (λ (r : Ruled). r .at) (c .declined .ensures)),
     )
 
@@ -96,7 +96,7 @@ returns-2 : tie.Need-returns-2
 unfolding modeRuling
 returns-2 c =
     let b = board (c .before .before .before .before .before .before .before .before) in (
-      follows-declined 7 b _ (cond-yes _ _ (whole (c .before .before)) (cond-no _ _ (lt-leb _ _ (c .before .if2 .taken)) refl)) (unmoved 7 b (c .declined2 .ensures)),
+      ruling-gives b _ _ _ (follows-declined 7 b _ (cond-yes _ _ (whole (c .before .before)) (cond-no _ _ (lt-leb _ _ (c .before .if2 .taken)) refl)) (unmoved 7 b (c .declined2 .ensures))),
       omega (arith, ap (λ (r : Ruled). r .at) (c .declined2 .ensures)),
     )
 
@@ -117,10 +117,10 @@ unfolding modeRuling
 returns-3 c =
     let s = c .before .before .before .before .before .before .before .before .before .before .before in
     let b = board s in (
-      follows-declined 1 b _
+      ruling-gives b _ _ _ (follows-declined 1 b _
           (cond-yes _ _ (whole (c .before .before .before .before .before)) (cond-yes _ _ (le-leb _ _ (c .before .before .before .before .if2 .left))
           (natural-out _ _ _ (told (foundIn (s .args .present)) (s .fits .track) (c .before .before .before .found .ensures) (c .before .enum-told .given .1)) refl)))
-          (unmoved 1 b (c .declined3 .ensures)),
+          (unmoved 1 b (c .declined3 .ensures))),
       omega (arith, ap (λ (r : Ruled). r .at) (c .declined3 .ensures)),
     )
 
@@ -149,10 +149,10 @@ returns-4 : tie.Need-returns-4
 unfolding modeRuling decided
 returns-4 c =
     let b = board (c .before .before .before .before .before .before .before .before .before .before .before .before .before .before .before .before) in (
-      follows-declined 2 b _
+      ruling-gives b _ _ _ (follows-declined 2 b _
           (cond-yes _ _ (whole (c .before .before .before .before .before .before .before .before .before .before)) (cond-yes _ _ (le-leb _ _ (c .before .before .before .before .before .before .before .before .before .if2 .left))
           (natural-take _ _ _ (number (c .before .before .before .before .before .before)) (ap (decided _ _ _) (sym (sym (c .before .before .before .grid .ensures) ∙ c .before .enum-told2 .given .1))))))
-          (unmoved 2 b (c .declined4 .ensures)),
+          (unmoved 2 b (c .declined4 .ensures))),
       omega (arith, ap (λ (r : Ruled). r .at) (c .declined4 .ensures)),
     )
 
@@ -166,8 +166,8 @@ returns-5 : tie.Need-returns-5
 returns-5 c =
     let b = board (c .before .before .before .before .before .before .before .before .before .before .before .before .before .before .before .before .before .before .before) in
     let l = small (c .before .before .before .before .before .before .before .before .before) in (
-      follows-silent b _ _ _ (ruling (c .before .before .before .before)) (sym (c .before .action .ensures) ∙ c .if3 .taken) (c .before .before .before .before .before .before .before .before .before .before .before .before .if2 .left)
-          (changed-with b _ _ (c .before .before .entered .ensures)),
+      ruling-gives b _ _ _ (follows-silent b _ _ _ (ruling (c .before .before .before .before)) (sym (c .before .action .ensures) ∙ c .if3 .taken) (c .before .before .before .before .before .before .before .before .before .before .before .before .if2 .left)
+          (changed-with b _ _ (c .before .before .entered .ensures))),
       omega arith,
     )
 
@@ -178,7 +178,7 @@ returns-6 : tie.Need-returns-6
 returns-6 c =
     let b = board (c .before .before .before .before .before .before .before .before .before .before .before .before .before .before .before .before .before .before .before .before .before) in
     let a = c .before .before .before .action .ensures in (
-      follows-full b _ _ _ (ruling (c .before .before .before .before .before .before)) (λ z. c .before .before .if3 .left (a ∙ z)) (c .before .if4 .taken) (unmoved 8 b (c .declined5 .ensures)),
+      ruling-gives b _ _ _ (follows-full b _ _ _ (ruling (c .before .before .before .before .before .before)) (λ z. c .before .before .if3 .left (a ∙ z)) (c .before .if4 .taken) (unmoved 8 b (c .declined5 .ensures))),
       omega (arith, ap (λ (r : Ruled). r .at) (c .declined5 .ensures)),
     )
 
@@ -197,8 +197,8 @@ returns-7 c =
     let a = c .before .before .before .before .before .before .before .before .action .ensures in
     let l = small (c .before .before .before .before .before .before .before .before .before .before .before .before .before .before .before .before) in
     let w = c .before .before .stage-change .ensures in (
-      follows-noted b _ _ _ (ruling (c .before .before .before .before .before .before .before .before .before .before .before)) (λ z. c .before .before .before .before .before .before .before .if3 .left (a ∙ z)) (c .before .before .before .before .before .before .if4 .left)
-          (changed-with b _ _ (c .before .before .before .before .before .before .before .before .before .entered .ensures)) (w .0) (w .1),
+      ruling-gives b _ _ _ (follows-noted b _ _ _ (ruling (c .before .before .before .before .before .before .before .before .before .before .before)) (λ z. c .before .before .before .before .before .before .before .if3 .left (a ∙ z)) (c .before .before .before .before .before .before .if4 .left)
+          (changed-with b _ _ (c .before .before .before .before .before .before .before .before .before .entered .ensures)) (w .0) (w .1)),
       omega arith,
     )
 

@@ -2,7 +2,7 @@ use Rattle.board.proofs.mode.mode_call.Statement.{statement}
 use Rattle.board.proofs.mode.mode_call.Tie as tie
 use Rattle.board.proofs.rules.Passing.{length-mapped}
 use borrow.Author.Needs.{needs}
-use Rattle.board.proofs.mode.Rulings.{follows-told}
+use Rattle.board.proofs.mode.Rulings.{gives-told}
 use lib.ListN.{length}
 use mathlib.Core.Path.{_≡_}
 use mir.Facts.{toZ-ofZ}
@@ -30,7 +30,7 @@ same-length c = search needs
 returns : tie.Need-returns
 returns c =
     let s = c .before .before .before .before .before .before .before .before .before .before .before .before .before in
-    follows-told (s .args .t1) _ _ (toZ-ofZ (s .fits .track)) (c .before .before .before .judge .ensures .0)
+    gives-told _ (toZ-ofZ (s .fits .track)) _ (c .before .before .before .judge .ensures .0)
 
 pub mode-call-spec : {M : Type 1} → statement M
 mode-call-spec = tie.close (tie.spec judge-requires mul-after element-set-from-after same-length returns)

@@ -1,6 +1,6 @@
 use Rattle.board.proofs.mode.play.Statement.{statement}
 use Rattle.board.proofs.mode.play.Tie as tie
-use Rattle.board.proofs.call.Machine.{play-gives}
+use Rattle.board.proofs.mode.Rulings.{play-gives}
 use borrow.Author.Needs.{needs}
 use mir.Facts.{toZ-ofZ}
 
@@ -11,7 +11,7 @@ same-length : tie.Need-same-length
 same-length c = search needs
 
 returns : tie.Need-returns
-returns c = play-gives _ _ _ _ (toZ-ofZ (c .before .before .before .before .before .fits .track)) (c .before .before .mode-call .ensures)
+returns c = play-gives _ (toZ-ofZ (c .before .before .before .before .before .fits .track)) (c .before .before .mode-call .ensures)
 
 pub play-spec : {M : Type 1} → statement M
 play-spec = tie.close (tie.spec mode-call-requires same-length returns)

@@ -1,7 +1,12 @@
 use Rattle.board.proofs.row.track_head.Statement.{statement}
 use Rattle.board.proofs.row.track_head.Tie as tie
 use borrow.Author.Needs.{needs}
-use mathlib.Core.Path.{refl}
+use Prim.Native.Nat.{ℕ}
+use lib.ListN.{take}
+use mathlib.Core.List.{List, _∷_}
+use mathlib.Core.Path.{ap}
+use Rattle.board.specs.Row.{padded}
+use Rattle.board.proofs.row.Encoding.{track-coordinates}
 use native.Mathlib.Omega.{arith}
 
 array-write-row : tie.Need-array-write-row
@@ -74,7 +79,7 @@ array-write-row-12 : tie.Need-array-write-row-12
 array-write-row-12 c = search needs
 
 returns : tie.Need-returns
-returns c = refl
+returns c = ap (λ (ns : List ℕ). padded (6 ∷ take 11 ns)) (track-coordinates (c .before .before .before .before .before .before .before .before .before .before .before .args .t))
 
 pub track-head-spec : {M : Type 1} → statement M
 track-head-spec =

@@ -2,6 +2,7 @@ use Prim.Native.Nat.{ℕ}
 use Rattle.board.proofs.row.Encoding.{track-numbers}
 use Rattle.board.proofs.row.track_row.Statement.{statement}
 use Rattle.board.proofs.row.track_row.Tie as tie
+use Rattle.board.specs.Call.{trackValues}
 use borrow.Author.Needs.{needs}
 use lib.ListN.{take}
 use mathlib.Core.List.{List, _++_}
@@ -18,7 +19,7 @@ returns c =
     let t = c .before .before .before .args .t in
     c .with-cells .ensures
     ∙ ap (λ (h : List ℕ). take 12 h ++ t .actions) (c .before .track-head .ensures)
-    ∙ track-numbers t (search needs)
+    ∙ track-numbers (trackValues t) (search needs)
 
 pub track-row-spec : {M : Type 1} → statement M
 track-row-spec = tie.close (tie.spec track-head-requires with-cells-requires returns)

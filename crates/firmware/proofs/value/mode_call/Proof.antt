@@ -1,6 +1,7 @@
 use Rattle.firmware.proofs.value.mode_call.Statement.{statement}
 use Rattle.firmware.proofs.value.mode_call.Tie as tie
-use Rattle.firmware.proofs.Numbering.{follows-number}
+use Rattle.firmware.proofs.Numbering.{gives-number}
+use Rattle.board.proofs.mode.Rulings.{gives-told}
 use borrow.Author.Needs.{needs}
 use mir.Facts.{toZ-ofZ}
 
@@ -16,7 +17,7 @@ same-length c = search needs
 returns : tie.Need-returns
 returns c =
     let j = c .before .before .before .before in
-    (follows-number _ _ _ (toZ-ofZ (j .before .before .before .before .before .fits .track)) (j .judge .ensures .0) (c .number-of .ensures), j .judge .ensures .1)
+    (gives-number _ _ _ (j .judge .result .answer) (gives-told _ (toZ-ofZ (j .before .before .before .before .before .fits .track)) _ (j .judge .ensures .0)) (c .number-of .ensures), j .judge .ensures .1)
 
 pub mode-call-spec : {M : Type 1} → statement M
 mode-call-spec = tie.close (tie.spec judge-requires number-of-requires same-length returns)

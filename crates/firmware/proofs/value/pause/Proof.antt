@@ -1,7 +1,6 @@
 use Rattle.firmware.proofs.value.pause.Statement.{statement}
 use Rattle.firmware.proofs.value.pause.Tie as tie
-use Rattle.firmware.proofs.Numbering.{gives-number}
-use Rattle.board.proofs.call.Machine.{pause-gives}
+use Rattle.board.proofs.mode.Rulings.{pause-gives}
 use borrow.Author.Needs.{needs}
 use mir.Facts.{toZ-ofZ}
 
@@ -15,7 +14,7 @@ returns : tie.Need-returns
 returns c =
     let d = c .before .before in
     let m = d .mode-call in
-    (gives-number (m .result .number) (pause-gives _ _ _ _ (toZ-ofZ (d .before .before .before .before .before .fits .track)) (m .ensures .0)), m .ensures .1)
+    (pause-gives _ (toZ-ofZ (d .before .before .before .before .before .fits .track)) (m .ensures .0), m .ensures .1)
 
 pub pause-spec : {M : Type 1} → statement M
 pause-spec = tie.close (tie.spec mode-call-requires same-length returns)

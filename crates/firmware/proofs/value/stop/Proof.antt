@@ -1,7 +1,6 @@
 use Rattle.firmware.proofs.value.stop.Statement.{statement}
 use Rattle.firmware.proofs.value.stop.Tie as tie
-use Rattle.firmware.proofs.Numbering.{gives-number}
-use Rattle.board.proofs.call.Machine.{stop-gives}
+use Rattle.board.proofs.mode.Rulings.{stop-gives}
 use borrow.Author.Needs.{needs}
 use mir.Facts.{toZ-ofZ}
 
@@ -15,7 +14,7 @@ returns : tie.Need-returns
 returns c =
     let d = c .before .before in
     let m = d .mode-call in
-    (gives-number (m .result .number) (stop-gives _ _ _ _ (toZ-ofZ (d .before .before .before .before .before .fits .track)) (m .ensures .0)), m .ensures .1)
+    (stop-gives _ (toZ-ofZ (d .before .before .before .before .before .fits .track)) (m .ensures .0), m .ensures .1)
 
 pub stop-spec : {M : Type 1} → statement M
 stop-spec = tie.close (tie.spec mode-call-requires same-length returns)

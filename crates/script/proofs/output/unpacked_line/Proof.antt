@@ -1,4 +1,5 @@
 use Rattle.script.specs.Output.{unpackedLine}
+use Rattle.board.specs.Log.{unpackSaid}
 use mathlib.Core.Path.{ap, sym, _∙_}
 use borrow.Author.Needs.{needs}
 use Rattle.script.proofs.output.unpacked_line.Statement.{statement}
@@ -22,12 +23,12 @@ new-requires c κs = search needs
 returns : tie.Need-returns
 returns c =
     let u = c .before .before .before .before .unpack in
-    c .record-line .ensures ∙ ap unpackedLine (sym (c .before .before .u .given .1) ∙ u .ensures)
+    c .record-line .ensures ∙ ap unpackedLine (ap unpackSaid (sym (c .before .before .u .given .1)) ∙ u .ensures)
 
 returns-2 : tie.Need-returns-2
 returns-2 c =
     let u = c .before .before .before .before .unpack in
-    c .new .ensures .0 ∙ ap unpackedLine (sym (c .before .before .u2 .given .1) ∙ u .ensures)
+    c .new .ensures .0 ∙ ap unpackedLine (ap unpackSaid (sym (c .before .before .u2 .given .1)) ∙ u .ensures)
 
 pub unpacked-line-spec : {M : Type 1} → statement M
 unpacked-line-spec =

@@ -1,4 +1,5 @@
 use Rattle.script.proofs.text.Written.{adds-low, adds-high, adds-wraps}
+use native.Mathlib.Omega.{arith}
 use borrow.Author.Needs.{needs}
 use Rattle.script.proofs.text.Out.position.Statement.{statement}
 use Rattle.script.proofs.text.Out.position.Tie as tie
@@ -40,7 +41,7 @@ number-requires-3 c κs = search needs
 returns-3 : tie.Need-returns-3
 returns-3 c =
     let a = c .before .before .before .before .before .args in
-    adds-wraps (a .self) (c .number3 .result) (a .c) (c .before .push2 .result) (c .before .before .if2 .left) (c .before .push2 .ensures) (c .number3 .ensures)
+    adds-wraps (a .self) (c .number3 .result) (a .c) (c .before .push2 .result) (c .before .before .if2 .left) (omega arith) (c .before .push2 .ensures) (c .number3 .ensures)
 
 pub position-spec : {M : Type 1} → statement M
 position-spec =
