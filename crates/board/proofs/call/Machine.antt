@@ -139,6 +139,7 @@ module _ (b : Board) where
   mode-fits n h =
       ruling-ways b n (λ (m : Ruling). recordWidth * (m .board .held + length (m .records)) ≤ n) (λ k. omega arith) (λ i mode _ _ fits. omega arith)
 
+-- every call leaves them or, if it is a clear that is accepted, lets them go
 call-held : (c : Call) (n : ℕ) (b : Board) → Leaves gridstep (clearsOf c b) b (makesOf c n b)
 unfolding makesOf clearsOf
 call-held (call.AddTrack i lo hi) n b = add-track-held b i lo hi

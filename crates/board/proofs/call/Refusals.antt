@@ -29,6 +29,7 @@ use Rattle.board.proofs.call.Machine.{counts, ruling-ways}
 pub silent : (b : Board) (w : World Board) → wrote gridstep (untouched b) w ≡ world b (w .log)
 silent b w = ap (λ (c : Board). world c (w .log)) (counts .grown-zero b)
 
+-- the answer behind a refusal's reply
 answered-refused : (a : Answer) {k : ℕ} → answered a ≡ refused k → a ≡ answer.Refused k
 answered-refused answer.Accepted e = cc
 answered-refused (answer.Refused n) e = cc
@@ -37,10 +38,11 @@ module _ (w : World Board) (k : ℕ) where
   abbrev b : Board
   b = w .board
 
-  -- an outcome, and a mode call's ruling, that leave all equal where they are refusals
+  -- an outcome that leaves all equal if it is a refusal
   abbrev Equal : Outcome → Type 0
   Equal o = answered (o .answer) ≡ refused k → wrote gridstep (madeOf o) w ≡ w
 
+  -- so do the rulings of mode calls
   mode-equal : (track : ℤ) (code : ℕ) →
       let m = modeRuling (w .board) (length (w .log)) track code in
       answered (m .answer) ≡ refused k → wrote gridstep (madeBy m) w ≡ w
@@ -48,6 +50,7 @@ module _ (w : World Board) (k : ℕ) where
       ruling-ways (w .board) (length (w .log)) (λ (m : Ruling). answered (m .answer) ≡ refused k → wrote gridstep (madeBy m) w ≡ w)
       (λ _ _. silent b w) (λ i mode _ _ _ e. cc)
 
+  -- and all calls but the advances of a run
   call-equal : (c : Call) → saysOf c (length (w .log)) b ≡ refused k → wrote gridstep (makesOf c (length (w .log)) b) w ≡ w
   unfolding saysOf makesOf
   call-equal (call.AddTrack i lo hi) = add-track-ways b Equal (λ _ _. silent b w) i lo hi (λ j low high _ _ _ _ e. cc)
@@ -77,6 +80,7 @@ module _ (w : World Board) (k : ℕ) where
   never-refused t (some ends) e = let z : _≡_ {A = ℕ} 0 1 = cc in omega arith
   never-refused t (some fills) e = let z : _≡_ {A = ℕ} 0 1 = cc in omega arith
 
+  -- and these
   part-equal : (p : Part Call) → perform gridstep p w .answer ≡ refused k → perform gridstep p w .left ≡ w
   part-equal (one c) = call-equal c
   part-equal (run n) = go (w-bar gridstep w) refl

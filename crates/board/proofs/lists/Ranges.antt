@@ -60,6 +60,7 @@ ranged-unpacks r h =
 -- ---- what a change of mode, a point and a command write
 
 module _ (clock : ℕ) (c : clock ≤ clockEnd) where
+  -- a mode change's record
   change-ranged : (i : ℕ) (t : Track) (new l passes : ℕ) → i < trackCount → Valid t → new ≤ WAITING → l ≤ coordinateLast → passes ≤ clockEnd
       → Each Ranged (changeRecords clock i t new l passes)
   unfolding changeRecords Each
@@ -78,6 +79,7 @@ module _ (clock : ℕ) (c : clock ≤ clockEnd) where
         tt,
       ))
 
+  -- a point's record
   point-ranged : (i l passes d : ℕ) → i < trackCount → InfoRule d → l ≤ coordinateLast → passes ≤ clockEnd
       → Each Ranged (pointRecords clock i l passes d)
   unfolding pointRecords Each
@@ -96,7 +98,7 @@ module _ (clock : ℕ) (c : clock ≤ clockEnd) where
         tt,
       ))
 
-  -- a track that is sound at the clock after the tick has its position and passes in their ranges
+  -- a command's record, on a target that is sound at that clock
   obeyed-ranged : (d : ℕ) (t : Track) → InfoRule d → ((commandOf d ≡ 0 → ⊥) → Sound t (record { 0 = clock })) → Each Ranged (obeyedRecords clock d t)
   unfolding commandRecords Each
   obeyed-ranged d t r sound =
@@ -121,6 +123,7 @@ module _ (clock : ℕ) (c : clock ≤ clockEnd) where
 
 -- ---- a tick
 
+-- passes grow by at most 1 on an arrival
 passes-most : (t : Track) (l : ℕ) → passesAt t l ≤ t .passes .0 + 1
 unfolding passesAt
 passes-most t l = cond-cases (λ (k : ℕ). k ≤ t .passes .0 + 1) (eqb l (far t)) (λ _. omega arith) (λ _. omega arith)
@@ -139,6 +142,7 @@ module _ (b : Board) (w : Unbroken b) (below : b .clock .0 < clockEnd) where
   abbrev after : Ticks
   after = record { 0 = b .clock .0 + 1 }
 
+  -- it is in its range
   here : clock ≤ clockEnd
   here = omega arith
 
@@ -199,6 +203,7 @@ module _ (b : Board) (w : Unbroken b) (below : b .clock .0 < clockEnd) where
       let s = subst (λ (k : ℕ). Sound (trackAt ts k) after) e (sound i p) in
       obeyed-keeps (λ t. Sound t after) t s (entered-sound t after s) d))))
 
+  -- every record of a tick
   tick-ranged : Each Ranged (tickOf b .records)
   unfolding tickFrom
   tick-ranged =
@@ -215,6 +220,7 @@ module _ (b : Board) (w : Unbroken b) (below : b .clock .0 < clockEnd) where
 -- ---- every other call
 
 module _ (n : ℕ) (b : Board) (w : Unbroken b) where
+  -- a mode call's record
   mode-ranged : (track : ℤ) (code : ℕ) → Each Ranged (modeRuling b n track code .records)
   unfolding Each
   mode-ranged =
@@ -225,6 +231,7 @@ module _ (n : ℕ) (b : Board) (w : Unbroken b) where
       change-ranged (b .clock .0) (w .clock) i t mode (t .position .0) (t .passes .0) (present-small (b .present) i h) (s .valid) l
       (omega (arith, s .valid .ordered)) (omega (arith, s .passes, w .clock)))
 
+  -- no other call writes one
   call-ranged : (c : Call) → Each Ranged (makesOf c n b .records)
   unfolding makesOf Each
   call-ranged (call.AddTrack i lo hi) = tt

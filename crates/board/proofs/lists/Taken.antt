@@ -64,6 +64,7 @@ taken-barred : (o : Option ℕ) → takenIn (barred o) ≡ 0
 taken-barred none = refl
 taken-barred (some k) = refl
 
+-- the answer of none of them carries ticks taken
 no-ticks : (c : Call) (n : ℕ) (b : Board) → takenIn (saysOf c n b) ≡ 0
 unfolding saysOf
 no-ticks (call.AddTrack i lo hi) n b = taken-answered (addTrack b i lo hi .answer)
@@ -82,12 +83,15 @@ no-ticks (call.Point i p) n b = taken-point (pointIn b i p)
 no-ticks (call.PointCount i from to) n b = taken-count (countIn b i from to)
 
 module _ (n : ℕ) (b : Board) where
+  -- the clock is what it was
   abbrev Same : Outcome → Type 0
   Same o = o .board .clock .0 ≡ b .clock .0
 
+  -- a mode call leaves it
   mode-clock : (track : ℤ) (code : ℕ) → modeRuling b n track code .board .clock .0 ≡ b .clock .0
   mode-clock = ruling-ways b n (λ (m : Ruling). m .board .clock .0 ≡ b .clock .0) (λ k. refl) (λ i mode _ _ _. refl)
 
+  -- and so does every other
   same-clock : (c : Call) → makesOf c n b .board .clock .0 ≡ b .clock .0
   unfolding makesOf
   same-clock (call.AddTrack i lo hi) = add-track-ways b Same (λ k. refl) i lo hi (λ j low high _ _ _ _. refl)
@@ -146,6 +150,7 @@ pub taken-growth : (c : Call) (w : World Board) →
     (w .board .clock .0 ≤ d .left .board .clock .0) × (takenIn (d .answer) ≡ d .left .board .clock .0 - w .board .clock .0)
 taken-growth c w = let e = part-clock (part most countOf advanceBy c) w in (omega arith, omega arith)
 
+-- the clock after a list of calls
 list-clock : (ps : List (Part Call)) (w : World Board) →
     let r = performs (perform gridstep) ps w in
     r .last .board .clock .0 ≡ w .board .clock .0 + total takenIn (r .answers)

@@ -1,4 +1,5 @@
--- The laws of the replay: the calls agree with it, the row is what they write, its records of a kind, and the cut on a board.
+-- The laws of the replay: the calls agree with it, the row is what they write, which of it is held, what its records keep, its records
+-- of a kind, and the cut on a board.
 use mathlib.Core.Path.{_≡_, refl, sym, _∙_, ap}
 use mathlib.Core.List.{List, [], _∷_, _++_, append-assoc, append-nil}
 use mathlib.Core.Bool.{Bool, true, false, cond}
@@ -288,6 +289,7 @@ module _ (R : Rules) (K : Counts R) (M : Room R) where
     pub held-is : held (s .board) ≡ length (drop n (s .row))
     pub bytes-are : take (width * held (s .board)) (s .log) ≡ flat R (drop n (s .row))
 
+  -- records behind the held ones are held too
   holds-behind : {s s′ : State Board Rec} {n : ℕ} → Behind R K s s′ → Holds s n → Holds s′ n
   holds-behind {s} {s′} {n} p h =
       let rs = p .recs in
@@ -303,11 +305,13 @@ module _ (R : Rules) (K : Counts R) (M : Room R) where
             ∙ rw (h .bytes-are, d) (sym (flat-append R K (drop n (s .row)) rs));
       }
 
+  -- where none is held, they are those behind the whole row
   holds-none : (s : State Board Rec) → held (s .board) ≡ 0 → Holds s (length (s .row))
   holds-none s h =
       let d : drop (length (s .row)) (s .row) ≡ [] = drop-of-length-le (s .row) {i = length (s .row)} (omega arith) in
       record { row-long = omega arith; held-is = rw d h; bytes-are = rw (d, h, mul-zero width) }
 
+  -- one call
   holds-one : (p : Part Call) (s : State Board Rec) (n : ℕ) → Fits s → Holds s n → Holds (replay R p s .left) (clearedBy R p s n)
   holds-one (run k) s n f h = go (r-bar R s) refl
     where
@@ -361,13 +365,16 @@ module _ (R : Rules) (K : Counts R) (Kept : R .Board → Type 0) (P : R .Rec →
     → Each P (R .makes c n b .records) × Kept (R .grown (R .makes c n b .board) (length (R .makes c n b .records)))) where
   open Rules R using (Board, Rec, Call, Stop, grown, tick, makes, done, refuse)
 
+  -- what is kept of a board and of every record of its row
   abbrev pub Keeps : State Board Rec → Type 0
   Keeps s = Kept (s .board) × Each P (s .row)
 
+  -- a tick or a call keeps it
   takes-keep : (m : Made Board Rec) (s : State Board Rec) → Each P (s .row)
       → Each P (m .records) × Kept (grown (m .board) (length (m .records))) → Keeps (takes R m s)
   takes-keep m s h g = rw (takes-all R K m s) (g .1, each-append P (s .row) (m .records) h (g .0))
 
+  -- and so do ticks
   ticks-keep : (n : ℕ) (s : State Board Rec) → Keeps s → Keeps (ticks (r-halt R) (r-step R) n s .end)
   unfolding ticks
   ticks-keep zero s h = h
@@ -380,6 +387,7 @@ module _ (R : Rules) (K : Counts R) (Kept : R .Board → Type 0) (P : R .Rec →
           (ih (takes-keep (tick (s .board)) s (h .1) (tick-kept (length (s .log)) (s .board) (h .0) e)))
       go (some x) e ih = rw (ticks-off (r-halt R) (r-step R) n s x e) h
 
+  -- every call
   part-keeps : (p : Part Call) (s : State Board Rec) → Keeps s → Keeps (replay R p s .left)
   part-keeps (one c) s h =
       takes-keep (makes c (length (s .log)) (s .board)) s (h .1) (call-kept c (length (s .log)) (s .board) (h .0))
@@ -389,7 +397,7 @@ module _ (R : Rules) (K : Counts R) (Kept : R .Board → Type 0) (P : R .Rec →
       go none e = rw (advance-in (r-halt R) (r-step R) (r-bar R) done refuse n s e) (ticks-keep n s h)
       go (some x) e = rw (advance-out (r-halt R) (r-step R) (r-bar R) done refuse n s x e) h
 
-  -- after every list of calls too
+  -- and every list of calls
   pub list-keeps : (ps : List (Part Call)) (s : State Board Rec) → Keeps s → Keeps (performs (replay R) ps s .last)
   list-keeps [] s h = h
   list-keeps (p ∷ ps) s h = list-keeps ps (replay R p s .left) (part-keeps p s h)
