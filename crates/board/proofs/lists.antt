@@ -5,3 +5,4 @@ pub mod Executing
 pub mod Cards
 pub mod Examples
 pub mod Rejected
+pub mod Answers
