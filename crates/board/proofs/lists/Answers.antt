@@ -1,5 +1,10 @@
--- Every answer of a call is told by its row of numbers: a track that is told has its sixteen cells.
-use mathlib.Core.Path.{_≡_, subst}
+-- What is so of every answer: its row of numbers tells it, since a track that is told has its sixteen cells; and the ticks taken that an
+-- advance answers are the clock's growth.
+use Prim.Native.Nat.{ℕ, zero, suc, _+_}
+use native.Mathlib.Omega.{arith}
+use mathlib.Core.Path.{_≡_, refl, sym, _∙_, ap, subst}
+use mathlib.Core.List.{List}
+use mathlib.Core.Option.{Option, none, some}
 use lib.IntN.{ℤ}
 use lib.ListN.{length}
 use Rattle.track.specs.declared.setup.Answer.{Answer}
@@ -22,9 +27,12 @@ use Rattle.board.specs.Board.{unbrokenTest, foundIn}
 use Rattle.board.specs.Setup.{setUp, addTrack, setPoint, dropPoint, clearBoard}
 use Rattle.board.specs.Query.{clockOf, trackOf, pointIn, countIn, noneRead}
 use Rattle.board.specs.Mode.{modeRuling}
-use Rattle.board.specs.Replay.{World}
-use Rattle.board.specs.Call.{answered, clockSaid, trackSaid, pointSaid, countSaid, advancedSaid, saysOf, countOf, does}
+use Rattle.board.specs.Cut.{Ran, ticks, Did, run, sorted}
+use Rattle.board.specs.Replay.{World, perform, w-bar, w-halt, w-step}
+use Rattle.board.specs.Call.{Reply, refused, answered, clockSaid, trackSaid, pointSaid, countSaid, advancedSaid, Stop, ends, fills, stoppedBy}
+use Rattle.board.specs.Call.{takenIn, barOf, barred, saysOf, makesOf, gridstep, most, countOf, advanceBy, does, Gives}
 use Rattle.board.specs.Row.{numbersOf}
+use Rattle.board.proofs.replay.Cuts.{ticks-on, ticks-off, advance-in, advance-out}
 use Rattle.board.proofs.rules.Present.{found-in}
 use Rattle.board.proofs.rules.Broken.{unbroken-of}
 use Rattle.board.proofs.setup.Ways.{by-natural}
@@ -85,3 +93,55 @@ celled (call.PointCount i from to) w = count-celled (countIn (w .board) i from t
 -- the row of a call's answer says that answer
 pub answer-told : (c : Call) (w : World Board) → replyIn (numbersOf (does c w .answer)) ≡ does c w .answer
 answer-told c w = reply-back (does c w .answer) (celled c w)
+
+-- ---- the ticks taken that an advance answers are the clock's growth
+
+abbrev clockIn : World Board → ℕ
+clockIn w = w .board .clock .0
+
+abbrev went : ℕ → World Board → Ran Stop (World Board)
+went k w = ticks (w-halt gridstep) (w-step gridstep) k w
+
+ticks-grow : (k : ℕ) (w : World Board) → clockIn (went k w .end) ≡ clockIn w + went k w .taken
+unfolding ticks
+ticks-grow zero w = omega arith
+ticks-grow (suc k) w = go (w-halt gridstep w) refl (ticks-grow k (w-step gridstep w))
+  where
+    go : (o : Option Stop) → w-halt gridstep w ≡ o
+        → clockIn (went k (w-step gridstep w) .end) ≡ clockIn w + 1 + went k (w-step gridstep w) .taken
+        → clockIn (went (suc k) w .end) ≡ clockIn w + went (suc k) w .taken
+    go none h ih = rw (ticks-on (w-halt gridstep) (w-step gridstep) k w h) (omega arith)
+    go (some e) h ih = rw (ticks-off (w-halt gridstep) (w-step gridstep) k w e h) (omega arith)
+
+abbrev Grows : World Board → Did Reply (World Board) → Type 0
+Grows w d = clockIn (d .left) ≡ clockIn w + takenIn (d .answer)
+
+-- of every advance, stopped or refused too
+taken-grows : (n : ℤ) (w : World Board) → Grows w (does (call.Advance n) w)
+unfolding saysOf makesOf
+taken-grows n w = go (countOf (call.Advance n))
+  where
+    stops : (t : ℕ) (o : Option Stop) → takenIn (stoppedBy t o) ≡ t
+    stops t none = refl
+    stops t (some ends) = refl
+    stops t (some fills) = refl
+
+    bars : (o : Option ℕ) → takenIn (barred o) ≡ 0
+    bars none = refl
+    bars (some k) = refl
+
+    runs : (k : ℕ) (o : Option ℕ) → w-bar gridstep w ≡ o → Grows w (perform gridstep (run k) w)
+    runs k none e =
+        rw (advance-in (w-halt gridstep) (w-step gridstep) (w-bar gridstep) stoppedBy refused k w e)
+        (omega (arith, ticks-grow k w, stops (went k w .taken) (went k w .why)))
+    runs k (some m) e = rw (advance-out (w-halt gridstep) (w-step gridstep) (w-bar gridstep) stoppedBy refused k w m e) (omega arith)
+
+    go : (o : Option ℕ) → Grows w (perform gridstep (sorted most countOf advanceBy (call.Advance n) o) w)
+    go none = omega (arith, bars (barOf (length (w .log)) (w .board)))
+    go (some k) = runs k (w-bar gridstep w) refl
+
+-- so a `taken` that isn't the clock's growth meets no contract of an advance
+pub taken-is-growth : (n : ℤ) (w : World Board) {a : Reply} {b : Board} {log : List ℕ} → Gives (does (call.Advance n) w) a b log
+    → b .clock .0 ≡ w .board .clock .0 + takenIn a
+taken-is-growth n w g =
+    ap (λ (b : Board). b .clock .0) (g .board-is) ∙ taken-grows n w ∙ ap (λ (a : Reply). clockIn w + takenIn a) (sym (g .answer-is))
