@@ -8,3 +8,4 @@ pub mod Executing
 pub mod Cards
 pub mod Examples
 pub mod Rejected
+pub mod Answers

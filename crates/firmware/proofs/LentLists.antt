@@ -22,6 +22,8 @@ use Rattle.board.specs.declared.call.Call.the-variants as call
 use Rattle.board.specs.Call.{Reply, refused, answered, advancedSaid, saysOf, countOf, gridstep, does, world, Gives}
 use Rattle.board.specs.Row.{callAt, numbersOf, rowDoes}
 use Rattle.board.specs.Lists.{cutUp}
+use Rattle.board.proofs.row.Telling.{replyIn}
+use Rattle.board.proofs.lists.Answers.{answer-told}
 use Rattle.board.proofs.lists.Replayed.{Step, Trace, nothing, then, Demand3, demand-3, gives-step}
 use Rattle.firmware.specs.declared.value.Ending.{Ending}
 use Rattle.firmware.specs.declared.door.Replied.{Replied}
@@ -86,8 +88,8 @@ pub data Lending : List Call → World Board → List Reply → World Board → 
   advanced : (count : ℤ) (ending : Ending) {cs : List Call} {w v u : World Board} {a : Reply} {xs : List Reply}
       → promised call.Advance endingSaid (w .board) count (w .log) (v .board) ending (v .log) → a ≡ endingSaid ending → Lending cs v xs u
       → Lending (call.Advance count ∷ cs) w (a ∷ xs) u
-  opened : (zs : List ℤ) {c : Call} {cs : List Call} {w v u : World Board} {numbers : List ℕ} {xs : List Reply}
-      → callAt zs ≡ some c → Opened zs w numbers v → Lending cs v xs u → Lending (c ∷ cs) w (does c w .answer ∷ xs) u
+  opened : (zs : List ℤ) {c : Call} {cs : List Call} {w v u : World Board} {numbers : List ℕ} {a : Reply} {xs : List Reply}
+      → callAt zs ≡ some c → Opened zs w numbers v → a ≡ replyIn numbers → Lending cs v xs u → Lending (c ∷ cs) w (a ∷ xs) u
   uncalled : (zs : List ℤ) {cs : List Call} {w v u : World Board} {numbers : List ℕ} {xs : List Reply}
       → callAt zs ≡ none → Opened zs w numbers v → Lending cs v xs u → Lending cs w xs u
   other : {c : Call} {cs : List Call} {w v u : World Board} {a : Reply} {xs : List Reply} → Step c w a v → Lending cs v xs u
@@ -98,11 +100,15 @@ pub lent-trace : Lfts 1 → {cs : List Call} {w u : World Board} {xs : List Repl
 lent-trace κs ended = nothing
 lent-trace κs (moded calls i number {w = w} p e t) = then (gives-step κs (calls i) w (gives-as e p)) (lent-trace κs t)
 lent-trace κs (advanced count ending {w = w} p e t) = then (gives-step κs (call.Advance count) w (gives-as e p)) (lent-trace κs t)
-lent-trace κs (opened zs {c = c} {w = w} e d t) =
-    let l = door-does zs w e d .1 in
+lent-trace κs (opened zs {c = c} {w = w} e d q t) =
+    let l = door-does zs w e d in
     then
     (gives-step κs c w
-    (record { answer-is = refl; board-is = ap (λ (v : World Board). v .board) l; log-is = ap (λ (v : World Board). v .log) l }))
+    (record {
+      answer-is = q ∙ ap replyIn (l .0) ∙ answer-told c w;
+      board-is = ap (λ (v : World Board). v .board) (l .1);
+      log-is = ap (λ (v : World Board). v .log) (l .1);
+    }))
     (lent-trace κs t)
 lent-trace κs (uncalled zs {cs = cs} {w = w} {u = u} {xs = xs} e d t) =
     subst (λ (v : World Board). Trace cs v xs u) (door-refuses zs w e d .1) (lent-trace κs t)
@@ -120,7 +126,7 @@ abbrev pub FromC : {cs : List Call} {w u : World Board} {xs : List Reply} → Le
 FromC ended = Unit {0}
 FromC (moded calls i number p e t) = FromC t
 FromC (advanced count ending p e t) = FromC t
-FromC (opened zs e d t) = FromC t
+FromC (opened zs e d q t) = FromC t
 FromC (uncalled zs e d t) = FromC t
 FromC (other s t) = ⊥
 
@@ -164,7 +170,7 @@ opens κs zs c w e =
 
 module _ (κs : Lfts 1) {cs : List Call} (w : World Board) {xs : List Reply} {u : World Board} where
   by-door : {c : Call} → Rowed c → Made cs (does c w .left) xs u → Made (c ∷ cs) w (does c w .answer ∷ xs) u
-  by-door {c} z t = (opened (z .0) (z .1) (opens κs (z .0) c w (z .1)) (t .0), t .1)
+  by-door {c} z t = (opened (z .0) (z .1) (opens κs (z .0) c w (z .1)) (sym (answer-told c w)) (t .0), t .1)
 
   -- a mode call, whose answer is a ruling's
   by-mode : (calls : ℤ → Call) (i : ℤ) (code : ℕ) → does (calls i) w .answer ≡ answered (modeRuling (w .board) (length (w .log)) i code .answer)

@@ -252,9 +252,9 @@ mode-met κs c w a e =
     (κs, lends (w .log), lends (d .left .log), record { answer = a; board = d .left .board }, g, refl, gives-left g)
 
 -- what an advance answers is an answer that its function can give
-record Said (a : Reply) : Type 0 where
-  told : Advanced
-  is : advancedSaid told ≡ a
+pub record Said (a : Reply) : Type 0 where
+  pub told : Advanced
+  pub is : advancedSaid told ≡ a
 
 ticks-said : (t : ℕ) (o : Option Stop) → Said (stoppedBy t o)
 ticks-said t none = record { told = advanced.Done (record { 0 = t }); is = refl }
@@ -264,7 +264,7 @@ ticks-said t (some fills) = record { told = advanced.LogFull (record { 0 = t });
 refusal-said : (k : ℕ) → Said (refused k)
 refusal-said k = record { told = advanced.Refused k; is = refl }
 
-advance-said : (n : ℤ) (w : World Board) → Said (does (call.Advance n) w .answer)
+pub advance-said : (n : ℤ) (w : World Board) → Said (does (call.Advance n) w .answer)
 unfolding saysOf
 advance-said n w = go (countOf (call.Advance n))
   where
