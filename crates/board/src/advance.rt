@@ -29,7 +29,7 @@ ghost use Rattle.board.specs.Log.{capacity};
 ghost use Rattle.board.specs.Cut.{ticks};
 ghost use Rattle.board.specs.Replay.{w-halt, w-step};
 ghost use Rattle.board.specs.Call.{world, gridstep, Gives, does, advancedSaid};
-ghost use Rattle.board.specs.Advance.{Ended, boardLeft};
+ghost use Rattle.board.specs.Advance.{Ended, Proceeds};
 ghost use Rattle.board.specs.declared.call.Call.the-variants as call;
 
 // Where ticks left off: what a tick changes of a board.
@@ -177,7 +177,7 @@ pub fn proceed<'a>(
     log: &mut [u8],
 ) -> Left
     requires { ⌜ (length (now keys) ≡ pointMost) × (length (now infos) ≡ pointMost) ⌝ }
-    ensures { λ r. ⌜ Gives (does (call.Advance count) (world (boardOf tracks present (now (keys .entry)) (now (infos .entry)) n (clock .0) held) (now (log .entry)))) (advancedSaid (r .answer)) (boardLeft (boardOf tracks present (now (keys .entry)) (now (infos .entry)) n (clock .0) held) r) (now (log .exit)) ⌝ }
+    ensures { λ r. ⌜ Proceeds count (boardOf tracks present (now (keys .entry)) (now (infos .entry)) n (clock .0) held) (now (log .entry)) r (now (log .exit)) ⌝ }
 {
     let kept = held as usize;
     if !unbroken(tracks, present, clock, keys, infos, n) {
