@@ -3,6 +3,7 @@ use Prim.Native.Nat.{ℕ, _+_, _-_, _*_, min}
 use mathlib.Core.Bool.{cond, Bool}
 use mathlib.Core.Path.{_≡_}
 use mathlib.Core.List.{List}
+use lib.IntN.{ℤ}
 use lib.ListN.{length}
 use lib.IntN.{ℤ}
 use Rattle.track.specs.Rule.{clockEnd}
@@ -11,13 +12,17 @@ use Rattle.board.specs.declared.advance.Left.{Left}
 use Rattle.board.specs.Tick.{members, playingWord}
 use Rattle.board.specs.Cut.{Ran, ticks}
 use Rattle.board.specs.Replay.{World, w-halt, w-step}
+use Rattle.board.specs.Call.{Stop, stoppedBy, advancedSaid, gridstep, does, world, Gives}
 use Rattle.board.specs.declared.call.Call.the-variants as call
-use Rattle.board.specs.Call.{Stop, stoppedBy, advancedSaid, gridstep, world, does, Gives}
 
 -- the board that ticks left off at
 abbrev pub boardLeft : Board → Left → Board
 boardLeft b r =
     record { tracks = r .tracks; present = b .present; points = b .points; clock = r .clock; held = r .held }
+
+-- what an advance comes to on a board's parts
+abbrev pub Proceeds : ℤ → Board → List ℕ → Left → List ℕ → Type 0
+Proceeds count b log r log′ = Gives (does (call.Advance count) (world b log)) (advancedSaid (r .answer)) (boardLeft b r) log′
 
 -- an advance has ended as ticks come to
 pub record Ended (b : Board) (t : Ran Stop (World Board)) (r : Left) (log : List ℕ) : Type 0 where
@@ -28,10 +33,6 @@ pub record Ended (b : Board) (t : Ran Stop (World Board)) (r : Left) (log : List
 -- so many ticks of the board b and a log have been taken, as far as the clock and the log allow
 abbrev pub TakesTicks : Board → ℕ → List ℕ → Left → List ℕ → Type 0
 TakesTicks b count log r log′ = Ended b (ticks (w-halt gridstep) (w-step gridstep) count (world b log)) r log′
-
--- r is what an advance leaves of the board b and a log
-abbrev pub Advances : Board → ℤ → List ℕ → Left → List ℕ → Type 0
-Advances b count log r log′ = Gives (does (call.Advance count) (world b log)) (advancedSaid (r .answer)) (boardLeft b r) log′
 
 -- ---- How many turns the tick loop can still take (01, "Advance": empty stretches are leapt): told by what is still to be written, not by
 -- the ticks still to be taken.

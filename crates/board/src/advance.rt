@@ -26,7 +26,7 @@ ghost use lib.ListN.{length};
 ghost use Rattle.board.specs.Board.{unbrokenTest, boardOf};
 ghost use Rattle.board.specs.Log.{capacity};
 ghost use Rattle.board.specs.Call.{world, Gives, does, advancedSaid};
-ghost use Rattle.board.specs.Advance.{TakesTicks, Advances};
+ghost use Rattle.board.specs.Advance.{TakesTicks, Proceeds};
 ghost use Rattle.board.specs.declared.call.Call.the-variants as call;
 
 // Where ticks left off: what a tick changes of a board.
@@ -173,7 +173,7 @@ pub fn proceed<'a>(
     count: i64,
     log: &mut [u8],
 ) -> Left
-    ensures { λ r. ⌜ Advances (boardOf tracks present (now (keys .entry)) (now (infos .entry)) n (clock .0) held) count
+    ensures { λ r. ⌜ Proceeds count (boardOf tracks present (now (keys .entry)) (now (infos .entry)) n (clock .0) held)
         (now (log .entry)) r (now (log .exit)) ⌝ }
 {
     let kept = held as usize;

@@ -38,8 +38,8 @@ use Rattle.board.proofs.Board.Laws as board-laws
 use Rattle.board.specs.declared.call.Advanced.{Advanced}
 use Rattle.board.specs.declared.advance.Left.{Left}
 use Rattle.board.specs.declared.call.Call.the-variants.{Advance}
-use Rattle.board.specs.Call.{Gives, does, world, advancedSaid}
-use Rattle.board.specs.Advance.{boardLeft}
+use Rattle.board.specs.Call.{advancedSaid}
+use Rattle.board.specs.Advance.{boardLeft, Proceeds}
 use Rattle.board.proofs.call.Advanced as advanced-type
 use Rattle.board.proofs.call.Advanced.Laws as advanced-laws
 use Rattle.board.proofs.advance.Left as left-type
@@ -69,7 +69,7 @@ abbrev Says : Board → ℤ → List ℕ → Board → Ending → List ℕ → T
 Says = promised Advance endingSaid
 
 abbrev Leaves : Board → ℤ → List ℕ → Left → List ℕ → Type 0
-Leaves b n log r log′ = Gives (does (Advance n) (world b log)) (advancedSaid (r .answer)) (boardLeft b r) log′
+Leaves b n = Proceeds n b
 
 -- the board that it leaves is a board
 after-is : (b : Board) → Is Lent b (boardVal b ∷ []) → (r : Left) (v : Val) → Is left-type.the-row r (v ∷ []) →

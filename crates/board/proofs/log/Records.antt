@@ -4,7 +4,7 @@ use mathlib.Core.Bool.{Bool, true, false, cond, _&&_}
 use mathlib.Core.List.{List, [], _∷_, _++_}
 use Prim.Native.Nat.{ℕ, suc, _+_, _-_, _≤_, _<_}
 use native.Mathlib.Omega.{arith}
-use borrow.Author.Tests.{ltb-true, ltb-false, lt-ltb, le-ltb, leb-true, le-leb, lt-leb, eq-eqb, ne-eqb}
+use borrow.Author.Tests.{ltb-true, ltb-false, lt-ltb, le-ltb, leb-true, le-leb, lt-leb, eqb-true, eq-eqb, ne-eqb}
 use lib.Dec.{eqb, ltb, leb}
 use lib.IntN.{ℤ, pos, negsuc}
 use lib.ListN.{length, take, drop, getD, take-append-drop, length-drop}
@@ -15,7 +15,7 @@ use Rattle.track.specs.Number.{valueOf}
 use Rattle.track.specs.Rule.{coordinateLast}
 use Rattle.track.specs.declared.Coordinate.{Coordinate}
 use Rattle.board.specs.Log.{le, fromLe, writeAt}
-use Rattle.board.specs.Log.{recordWidth, kindTest, twosOf, signedOf, positionOf, recordValues, bytesOf, recordBytes, spelled}
+use Rattle.board.specs.Log.{recordWidth, kindTest, twosOf, signedOf, positionOf, RecordValues, recordValues, bytesOf, recordBytes, spelled}
 use Rattle.board.specs.Log.{packed, recordIs, refused, unpackSaid, unpackOf, packAnswer, packBytes}
 use Rattle.board.specs.declared.log.Record.{Record}
 use Rattle.board.specs.declared.log.Unpacked.the-variants.{Held}
@@ -122,8 +122,8 @@ pub position-bytes : (r : Record) → take 4 (drop 8 (recordBytes r)) ≡ le 4 (
 unfolding recordBytes bytesOf le
 position-bytes r = refl
 
--- and any four bytes there are the two's complement of the signed position that they unpack to
-pub spelled-position : (s : List ℕ) → length s ≡ recordWidth → ((i : ℕ) → getD s i 0 < 256) → take 4 (drop 8 s) ≡ le 4 (twosOf (spelled s .position))
+-- and any four bytes there are the two's complement of the signed position that they spell
+spelled-position : (s : List ℕ) → length s ≡ recordWidth → ((i : ℕ) → getD s i 0 < 256) → take 4 (drop 8 s) ≡ le 4 (twosOf (spelled s .position))
 unfolding spelled
 spelled-position s l small =
     sym (ap (le 4) (twos-signed (fromLe (take 4 (drop 8 s))) (four-small s 8 (omega arith) small)) ∙ le-four s 8 (omega arith) small)
@@ -179,6 +179,27 @@ unpack-refuses-kind s h = ap (λ (b : Bool). cond b (recordIs (spelled s)) (refu
 pub unpack-holds : (s : List ℕ) → length s ≡ recordWidth → kindTest (getD s 5 0) ≡ true → unpackOf s ≡ recordIs (spelled s)
 unfolding unpackOf
 unpack-holds s l k = simp (eq-eqb (length s) 16 l, k)
+
+-- a record that unpacking holds has the values that the bytes spell
+module _ (r : Record) (s : List ℕ) (says : unpackSaid (Held r) ≡ unpackOf s) where
+  unpack-says : (length s ≡ recordWidth) × (recordValues r ≡ spelled s)
+  unfolding unpackOf
+  unpack-says = go (eqb (length s) recordWidth && kindTest (getD s 5 0)) refl says
+    where
+      go : (b : Bool) → (eqb (length s) recordWidth && kindTest (getD s 5 0)) ≡ b → recordIs (recordValues r) ≡ cond b (recordIs (spelled s)) (refused 3) →
+          (length s ≡ recordWidth) × (recordValues r ≡ spelled s)
+      go true t e = (eqb-true _ _ (both (eqb (length s) recordWidth) (kindTest (getD s 5 0)) t .0), cc)
+      go false t e = let z : _≡_ {A = ℕ} 0 1 = cc in absurd (omega arith)
+
+  -- so any four bytes are the two's complement of the signed position that they unpack to
+  pub unpack-position : ((i : ℕ) → getD s i 0 < 256) → take 4 (drop 8 s) ≡ le 4 (twosOf (recordValues r .position))
+  unpack-position small =
+      spelled-position s (unpack-says .0) small ∙ ap (λ (v : RecordValues). le 4 (twosOf (v .position))) (sym (unpack-says .1))
+
+  -- and packing gives the same bytes back
+  pub unpack-back : ((i : ℕ) → getD s i 0 < 256) → recordBytes r ≡ s
+  unfolding recordBytes
+  unpack-back small = ap bytesOf (unpack-says .1) ∙ pack-unpack s (unpack-says .0) small
 
 module _ (r : Record) (s : List ℕ) (at : ℕ) where
   by-test : {b : Bool} → (kindTest (r .kind) && leb (at + recordWidth) (length s)) ≡ b
