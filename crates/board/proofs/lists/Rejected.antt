@@ -208,8 +208,9 @@ setUps =
     ∷ gives (point 0 11 7 0 0 0) (ready 0) accepted (after (point 0 10 7 0 0 0 ∷ []) (ready 0))
     -- a point's missing target is 1
     ∷ gives (point 0 3 7 0 1 1) (ready 0) (refused 1) (ready 0)
-    -- drop point: a position outside the bounds is 3
+    -- drop point: a position outside the bounds, or beyond those of any track, is 3
     ∷ gives (drop 0 11) (ready 0) (refused 3) (ready 0)
+    ∷ gives (drop 0 1000001) (ready 0) (refused 3) (ready 0)
     -- accepted with the point still there, or where there is none
     ∷ gives (drop 0 5) (ready 0) accepted (ready 0)
     ∷ gives (drop 0 3) (ready 0) accepted (ready 0)
@@ -240,8 +241,9 @@ queries =
     ∷ gives (call.Track (pos 0)) broken (refused 1) broken
     -- its fields as they were before it played
     ∷ gives (call.Track (pos 0)) (played 0 []) (does (call.Track (pos 0)) (ready 0) .answer) (played 0 [])
-    -- a point: outside the bounds it is 3
+    -- a point: outside the bounds, or beyond those of any track, it is 3
     ∷ gives (call.Point (pos 0) (pos 11)) (ready 0) (refused 3) (ready 0)
+    ∷ gives (call.Point (pos 0) (pos 1000001)) (ready 0) (refused 3) (ready 0)
     -- another point is told
     ∷ gives (call.Point (pos 0) (pos 5)) (ready 0) (does (call.Point (pos 0) (pos 2)) (ready 0) .answer) (ready 0)
     -- the number of points from a to b, an end left out
