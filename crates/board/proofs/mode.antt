@@ -1,1 +1,1 @@
-pub mod Rulings
+pub mod Results

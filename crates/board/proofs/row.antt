@@ -1,3 +1,3 @@
 pub mod Encoding
 pub mod Doing
-pub mod Telling
+pub mod Replies

@@ -1,4 +1,4 @@
-pub mod Stirring
+pub mod More
 pub mod PlayingLaws
 pub mod Staging
 pub mod Commands

@@ -33,13 +33,13 @@ abbrev pub arrivalsIn : Board → List Arrival
 arrivalsIn b = arrivalsOf b (members (playingWord (b .present) (b .tracks)))
 
 -- the record of kind 1 that belongs to an arrival: the clock after the tick, the point, the location and the passes so far
-abbrev pub noteOf : Board → Arrival → Record
-noteOf b a =
+abbrev pub arrivalRecord : Board → Arrival → Record
+arrivalRecord b a =
     let d = a .info in
     recordOf (b .clock .0 + 1) (a .track) 1 (eventOf d) (commandOf d * detailUnit + targetOf d) (a .location) (trackAt (b .tracks) (a .track) .passes .0)
 
-abbrev pub notesIn : Board → List Record
-notesIn b = map (noteOf b) (arrivalsIn b)
+abbrev pub arrivalRecords : Board → List Record
+arrivalRecords b = map (arrivalRecord b) (arrivalsIn b)
 
 -- a record of kind 1
 abbrev pub isPoint : Record → Bool

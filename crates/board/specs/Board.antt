@@ -91,8 +91,8 @@ unfoldable pub placeTest : ℕ → Track → Point → Bool
 placeTest present owner p =
     isPresent present (p .track) && (leb (owner .min .0) (p .position .0) && leb (p .position .0) (owner .max .0))
 
-unfoldable pub deedTest : ℕ → Point → Bool
-deedTest present p =
+unfoldable pub allowedTest : ℕ → Point → Bool
+allowedTest present p =
     leb 1 (p .event)
     && (leb (p .event) eventMost
     && (leb (p .wait) 1
@@ -105,7 +105,7 @@ pointsTest present ts lo (k ∷ ks) [] = true
 pointsTest present ts lo (k ∷ ks) (d ∷ ds) =
     leb lo k
     && (placeTest present (trackAt ts (pointOf k d .track)) (pointOf k d)
-    && (deedTest present (pointOf k d) && pointsTest present ts (suc k) ks ds))
+    && (allowedTest present (pointOf k d) && pointsTest present ts (suc k) ks ds))
 
 -- the present word, tracks, keys and infos
 unfoldable pub shapeTest : ℕ → List Track → List ℕ → List ℕ → Bool

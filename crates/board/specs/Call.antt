@@ -35,8 +35,8 @@ use Rattle.board.specs.Board.{unbrokenTest}
 use Rattle.board.specs.Setup.{boardWith, setUp, addTrack, setPoint, dropPoint, clearBoard}
 use Rattle.board.specs.Query.{clockOf, trackOf, pointIn, countIn}
 use Rattle.board.specs.Tick.{tickOf}
-use Rattle.board.specs.Mode.{Ruling, modeRuling, outcomeOf}
-use Rattle.board.specs.declared.mode.Ruled.{Ruled}
+use Rattle.board.specs.Mode.{ModeResult, modeResult, outcomeOf}
+use Rattle.board.specs.declared.mode.ModeChange.{ModeChange}
 use Rattle.board.specs.Cut.{Did, part}
 use Rattle.board.specs.Replay.{Made, Rules, World, wrote, perform}
 use Rattle.board.specs.declared.call.Told.{Told}
@@ -206,7 +206,7 @@ barred (some k) = refused k
 abbrev pub madeOf : Outcome → Made Board Record
 madeOf o = record { board = o .board; records = [] }
 
-abbrev pub madeBy : Ruling → Made Board Record
+abbrev pub madeBy : ModeResult → Made Board Record
 madeBy m = record { board = m .board; records = m .records }
 
 abbrev pub untouched : Board → Made Board Record
@@ -217,10 +217,10 @@ saysOf (call.AddTrack i lo hi) n b = answered (addTrack b i lo hi .answer)
 saysOf (call.SetUp i c) n b = answered (setUp b i c .answer)
 saysOf (call.SetPoint i p e w c g) n b = answered (setPoint b i p e w c g .answer)
 saysOf (call.DropPoint i p) n b = answered (dropPoint b i p .answer)
-saysOf (call.Play i) n b = answered (modeRuling b n i PLAY .answer)
-saysOf (call.Pause i) n b = answered (modeRuling b n i PAUSE .answer)
-saysOf (call.Resume i) n b = answered (modeRuling b n i RESUME .answer)
-saysOf (call.Stop i) n b = answered (modeRuling b n i STOP .answer)
+saysOf (call.Play i) n b = answered (modeResult b n i PLAY .answer)
+saysOf (call.Pause i) n b = answered (modeResult b n i PAUSE .answer)
+saysOf (call.Resume i) n b = answered (modeResult b n i RESUME .answer)
+saysOf (call.Stop i) n b = answered (modeResult b n i STOP .answer)
 saysOf (call.Advance k) n b = barred (barOf n b)
 saysOf call.Clear n b = answered (clearBoard b .answer)
 saysOf call.Clock n b = clockSaid (clockOf b)
@@ -233,10 +233,10 @@ makesOf (call.AddTrack i lo hi) n b = madeOf (addTrack b i lo hi)
 makesOf (call.SetUp i c) n b = madeOf (setUp b i c)
 makesOf (call.SetPoint i p e w c g) n b = madeOf (setPoint b i p e w c g)
 makesOf (call.DropPoint i p) n b = madeOf (dropPoint b i p)
-makesOf (call.Play i) n b = madeBy (modeRuling b n i PLAY)
-makesOf (call.Pause i) n b = madeBy (modeRuling b n i PAUSE)
-makesOf (call.Resume i) n b = madeBy (modeRuling b n i RESUME)
-makesOf (call.Stop i) n b = madeBy (modeRuling b n i STOP)
+makesOf (call.Play i) n b = madeBy (modeResult b n i PLAY)
+makesOf (call.Pause i) n b = madeBy (modeResult b n i PAUSE)
+makesOf (call.Resume i) n b = madeBy (modeResult b n i RESUME)
+makesOf (call.Stop i) n b = madeBy (modeResult b n i STOP)
 makesOf (call.Advance k) n b = untouched b
 makesOf call.Clear n b = madeOf (clearBoard b)
 makesOf call.Clock n b = untouched b
@@ -297,28 +297,28 @@ abbrev pub taken? : Natural → Option ℕ
 taken? (natural.In k) = some k
 taken? natural.Outside = none
 
-unfoldable pub countOf : Call → Option ℕ
-countOf (call.Advance k) = taken? (naturalOf k 0 most)
-countOf (call.AddTrack i lo hi) = none
-countOf (call.SetUp i c) = none
-countOf (call.SetPoint i p e w c g) = none
-countOf (call.DropPoint i p) = none
-countOf (call.Play i) = none
-countOf (call.Pause i) = none
-countOf (call.Resume i) = none
-countOf (call.Stop i) = none
-countOf call.Clear = none
-countOf call.Clock = none
-countOf (call.Track i) = none
-countOf (call.Point i p) = none
-countOf (call.PointCount i from to) = none
+unfoldable pub runCount : Call → Option ℕ
+runCount (call.Advance k) = taken? (naturalOf k 0 most)
+runCount (call.AddTrack i lo hi) = none
+runCount (call.SetUp i c) = none
+runCount (call.SetPoint i p e w c g) = none
+runCount (call.DropPoint i p) = none
+runCount (call.Play i) = none
+runCount (call.Pause i) = none
+runCount (call.Resume i) = none
+runCount (call.Stop i) = none
+runCount call.Clear = none
+runCount call.Clock = none
+runCount (call.Track i) = none
+runCount (call.Point i p) = none
+runCount (call.PointCount i from to) = none
 
 abbrev pub advanceBy : ℕ → Call
 advanceBy n = call.Advance (pos n)
 
 -- what a call answers, and the board and log that it leaves
 abbrev pub does : Call → World Board → Did Reply (World Board)
-does c w = perform gridstep (part most countOf advanceBy c) w
+does c w = perform gridstep (part most runCount advanceBy c) w
 
 abbrev pub world : Board → List ℕ → World Board
 world b log = record { board = b; log = log }
@@ -336,12 +336,12 @@ Leaves c b reply board = (log : List ℕ) → Gives (does c (world b log)) reply
 -- what a mode call does by its number, 1 play, 2 pause, 3 resume, 4 stop; no mode allows any other
 unfoldable pub modeDoes : ℕ → ℤ → World Board → Did Reply (World Board)
 modeDoes k track w =
-    let m = modeRuling (w .board) (length (w .log)) track k in
+    let m = modeResult (w .board) (length (w .log)) track k in
     record { answer = answered (m .answer); left = wrote gridstep (madeBy m) w }
 
 -- what it comes to on a board's parts, and the place of the one track that it may change
-abbrev pub Judges : ℕ → ℤ → Board → List ℕ → Ruled → List ℕ → Type 0
-Judges k track b log r log′ =
+abbrev pub ChangesMode : ℕ → ℤ → Board → List ℕ → ModeChange → List ℕ → Type 0
+ChangesMode k track b log r log′ =
     Gives (modeDoes k track (world b log)) (answered (r .answer)) (outcomeOf b r .board) log′ × (r .at < trackCount)
 
 -- ---- What a call tells, as the code has it, and 01's reply.

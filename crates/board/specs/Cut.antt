@@ -135,8 +135,8 @@ module _ {C : Type 0} (most : ℕ) (count : C → Option ℕ) (go : ℕ → C) w
   plains (p ∷ ps) = plain p ∷ plains ps
 
   -- the list with each run written as one advance of its sum
-  abbrev pub whole : List C → List C
-  whole cs = plains (merge (parts cs))
+  abbrev pub mergedList : List C → List C
+  mergedList cs = plains (merge (parts cs))
 
   -- each run's sum is at most the most
   abbrev pub Low : List (Part C) → Type 0
@@ -149,6 +149,6 @@ module _ {C : Type 0} (most : ℕ) (count : C → Option ℕ) (go : ℕ → C) w
 
   -- two lists that differ only in the cut
   pub record Recut (cs ds : List C) : Type 0 where
-    pub same : whole cs ≡ whole ds
+    pub same : mergedList cs ≡ mergedList ds
     pub within : Within cs
     pub within′ : Within ds

@@ -7,7 +7,7 @@ use Rattle.board.specs.declared.call.Call.{Call}
 use Rattle.board.specs.Board.{freshBoard}
 use Rattle.board.specs.Cut.{All, Part, parts, performs}
 use Rattle.board.specs.Replay.{State, replay, clearedAt}
-use Rattle.board.specs.Call.{Reply, gridstep, most, countOf, advanceBy}
+use Rattle.board.specs.Call.{Reply, gridstep, most, runCount, advanceBy}
 use mathlib.Core.Path.{_≡_}
 use lib.IntN.{ℤ}
 use lib.ListN.{length, drop}
@@ -16,7 +16,7 @@ use Rattle.board.specs.Row.{callWidth, replyWidth, rowsOf, callsIn, numb
 
 -- a list as the cut sees it
 abbrev pub cutUp : List Call → List (Part Call)
-cutUp = parts most countOf advanceBy
+cutUp = parts most runCount advanceBy
 
 -- the replay at first: its own board, fresh, the log as it is, and a row without records
 abbrev pub start : List ℕ → State Board Record

@@ -16,18 +16,18 @@ use Rattle.board.specs.declared.Board.{Board}
 use Rattle.board.specs.declared.log.Record.{Record}
 use Rattle.board.specs.Log.{capacity}
 use Rattle.board.specs.declared.setup.Outcome.{Outcome}
-use Rattle.board.specs.declared.mode.Ruled.{Ruled}
+use Rattle.board.specs.declared.mode.ModeChange.{ModeChange}
 use Rattle.board.specs.Board.{trackAt, unbrokenTest, foundIn}
 use Rattle.board.specs.Setup.{boardWith}
 use Rattle.board.specs.Tick.{changeRecords}
 
 -- what a call with the log comes to: the answer, the board with its records not yet counted, and those records
-pub record Ruling : Type 0 where
+pub record ModeResult : Type 0 where
   pub answer : Answer
   pub board : Board
   pub records : List Record
 
-abbrev pub declined : ℕ → Board → Ruling
+abbrev pub declined : ℕ → Board → ModeResult
 declined n b = record { answer = Refused n; board = b; records = [] }
 
 -- the records that a change of mode of track i to `mode` writes, with the clock as it is, position and passes before any rewinding
@@ -37,7 +37,7 @@ callRecords b i mode =
     changeRecords (b .clock .0) i t mode (t .position .0) (t .passes .0)
 
 -- track i goes to `mode`
-abbrev pub changing : Board → ℕ → ℕ → Ruling
+abbrev pub changing : Board → ℕ → ℕ → ModeResult
 changing b i mode =
     record {
       answer = Accepted;
@@ -46,17 +46,17 @@ changing b i mode =
     }
 
 -- 8 the mode call's record doesn't fit
-unfoldable pub changesTo : Board → ℕ → ℕ → ℕ → Ruling
+unfoldable pub changesTo : Board → ℕ → ℕ → ℕ → ModeResult
 changesTo b n i mode = cond (leb (b .held + length (callRecords b i mode)) (capacity n)) (changing b i mode) (declined 8 b)
 
 -- 2 mode does not allow the call
-unfoldable pub decided : Board → ℕ → ℕ → Decision → Ruling
+unfoldable pub decided : Board → ℕ → ℕ → Decision → ModeResult
 decided b n i (decision.Goes mode) = changesTo b n i mode
 decided b n i decision.Refused = declined 2 b
 
 -- 3 broken, 7 capacity below held, 1 track, 2 mode, 8 no room; n is the log's length
-unfoldable pub modeRuling : Board → ℕ → ℤ → ℕ → Ruling
-modeRuling b n track call =
+unfoldable pub modeResult : Board → ℕ → ℤ → ℕ → ModeResult
+modeResult b n track call =
     cond (unbrokenTest b)
     (cond (leb (b .held) (capacity n))
     (onNatural (foundIn (b .present) track) (λ i. decided b n i (gridOf (trackAt (b .tracks) i .mode) call)) (declined 1 b))
@@ -64,6 +64,6 @@ modeRuling b n track call =
     (declined 3 b)
 
 -- the outcome on b of what a call comes to: one track put in its place, and the number of records held
-abbrev pub outcomeOf : Board → Ruled → Outcome
+abbrev pub outcomeOf : Board → ModeChange → Outcome
 outcomeOf b r =
     record { answer = r .answer; board = boardWith b (set (b .tracks) (r .at) (r .track)) (b .present) (b .points) (r .held) }

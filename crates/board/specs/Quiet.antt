@@ -20,20 +20,20 @@ Some P [] = ⊥
 Some P (i ∷ is) = P i ⊎ Some P is
 
 -- the info beside a key is not 0, so that an info of 0 says that there is no point
-unfoldable pub Telling : List ℕ → List ℕ → Type 0
-Telling ks ds = (k : ℕ) → hasKey k ks ≡ true → infoAt k ks ds ≡ 0 → ⊥
+unfoldable pub NonzeroInfos : List ℕ → List ℕ → Type 0
+NonzeroInfos ks ds = (k : ℕ) → hasKey k ks ≡ true → infoAt k ks ds ≡ 0 → ⊥
 
 -- the next step of track t, number i, reaches a point of its own
 abbrev pub reaches : List ℕ → ℕ → Track → Bool
 reaches ks i t = hasKey (key i (arrival t)) ks
 
 -- it does, or it stops the track
-unfoldable pub loud : List ℕ → ℕ → Track → Bool
-loud ks i t = stops t || reaches ks i t
+unfoldable pub endsQuiet : List ℕ → ℕ → Track → Bool
+endsQuiet ks i t = stops t || reaches ks i t
 
--- no step of the first r is loud
-abbrev pub Calm : List ℕ → ℕ → ℕ → Track → Type 0
-Calm ks r i t = (j : ℕ) → j < r → loud ks i (leap t j) ≡ false
+-- none of the first r steps ends the quiet
+abbrev pub QuietFor : List ℕ → ℕ → ℕ → Track → Type 0
+QuietFor ks r i t = (j : ℕ) → j < r → endsQuiet ks i (leap t j) ≡ false
 
 -- r is the number of steps before the first that reaches a point, or the clock's end where that is less
 pub record ToPoint (ks : List ℕ) (i : ℕ) (t : Track) (r : ℕ) : Type 0 where
@@ -41,25 +41,25 @@ pub record ToPoint (ks : List ℕ) (i : ℕ) (t : Track) (r : ℕ) : Type 0 wher
   pub none : (j : ℕ) → j < r → reaches ks i (leap t j) ≡ false
   pub exact : r < clockEnd → reaches ks i (leap t r) ≡ true
 
--- r is the number of steps before the first loud one, or the clock's end where that is less
+-- r is the number of steps before the first that ends the quiet, or the clock's end where that is less
 pub record QuietSteps (ks : List ℕ) (i : ℕ) (t : Track) (r : ℕ) : Type 0 where
   pub small : r ≤ clockEnd
-  pub quiet : Calm ks r i t
-  pub exact : r < clockEnd → loud ks i (leap t r) ≡ true
+  pub quiet : QuietFor ks r i t
+  pub exact : r < clockEnd → endsQuiet ks i (leap t r) ≡ true
 
--- r is the number of ticks before the first in which a step of the tracks of these numbers is loud, or a where that is less
+-- r is the number of ticks before the first in which a step of the tracks of these numbers ends the quiet, or a where that is less
 pub record Fewest (ks : List ℕ) (ts : List Track) (is : List ℕ) (a r : ℕ) : Type 0 where
   pub small : r ≤ a
-  pub quiet : Each (λ i. Calm ks r i (trackAt ts i)) is
-  pub exact : r < a → Some (λ i. loud ks i (leap (trackAt ts i) r) ≡ true) is
+  pub quiet : Each (λ i. QuietFor ks r i (trackAt ts i)) is
+  pub exact : r < a → Some (λ i. endsQuiet ks i (leap (trackAt ts i) r) ≡ true) is
 
 -- a track that can be leapt, and the tracks of these numbers can
-pub record Able (t : Track) : Type 0 where
+pub record CanLeap (t : Track) : Type 0 where
   pub valid : Valid t
   pub passes : t .passes .0 ≤ clockEnd
 
 abbrev pub Leapable : List Track → List ℕ → Type 0
-Leapable ts is = Each (λ i. Able (trackAt ts i)) is
+Leapable ts is = Each (λ i. CanLeap (trackAt ts i)) is
 
 -- the tracks of these numbers k steps on, read from ts and put into us
 unfoldable pub leapInto : ℕ → List Track → List ℕ → List Track → List Track

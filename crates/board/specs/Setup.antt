@@ -18,10 +18,10 @@ use Rattle.board.specs.declared.points.Point.{Point}
 use Rattle.board.specs.declared.points.Points.{Points}
 use Rattle.board.specs.declared.points.Stored.{Stored}
 use Rattle.board.specs.declared.setup.Outcome.{Outcome}
-use Rattle.board.specs.declared.setup.Drawn.{Drawn}
-use Rattle.board.specs.declared.setup.Drawn.the-variants as drawn
+use Rattle.board.specs.declared.setup.Described.{Described}
+use Rattle.board.specs.declared.setup.Described.the-variants as described
 use Rattle.board.specs.Points.{key, keyOf, infoOf, storedIn, droppedFrom}
-use Rattle.board.specs.Board.{trackAt, isPresent, eventMost, deedTest, unbrokenTest, foundIn}
+use Rattle.board.specs.Board.{trackAt, isPresent, eventMost, allowedTest, unbrokenTest, foundIn}
 
 -- a refusal carries its number alone, the board equal to before
 abbrev pub refused : ℕ → Board → Outcome
@@ -36,8 +36,8 @@ boardWith b ts present points held =
     record { tracks = ts; present = present; points = points; clock = b .clock; held = held }
 
 -- what a call does on an unbroken board; any call lent a broken one refuses it 3
-abbrev pub whole : Board → Outcome → Outcome
-whole b o = cond (unbrokenTest b) o (refused 3 b)
+abbrev pub onUnbroken : Board → Outcome → Outcome
+onUnbroken b o = cond (unbrokenTest b) o (refused 3 b)
 
 -- what a call does on a present track, with its number
 abbrev pub onTrack : Board → ℤ → (ℕ → Outcome) → Outcome
@@ -51,14 +51,14 @@ putTrack b i r =
 
 -- 3 broken, 1 track, then 2 and 3 as the track decides
 unfoldable pub setUp : Board → ℤ → Change → Outcome
-setUp b track c = whole b (onTrack b track (λ i. putTrack b i (changedBy (trackAt (b .tracks) i) c)))
+setUp b track c = onUnbroken b (onTrack b track (λ i. putTrack b i (changedBy (trackAt (b .tracks) i) c)))
 
 -- ---- add track
 
 -- 3 broken, 1 number, 6 already present, 3 bounds min < max, each from -1,000,000 to 1,000,000
 unfoldable pub addTrack : Board → ℤ → ℤ → ℤ → Outcome
 addTrack b number min max =
-    whole b
+    onUnbroken b
     (onNatural (naturalOf number 0 15)
     (λ i. cond (isPresent (b .present) i) (refused 6 b)
     (onPlace (coordinateOf min)
@@ -73,44 +73,44 @@ abbrev pub pointWith : ℕ → Coordinate → ℕ → ℕ → ℕ → ℕ → Po
 pointWith track position event wait command target =
     record { track = track; position = position; event = event; wait = wait; command = command; target = target }
 
-abbrev pub ableOnly : ℕ → Point → Drawn
-ableOnly present p = cond (deedTest present p) (drawn.Good p) drawn.Bad
+abbrev pub allowedOnly : ℕ → Point → Described
+allowedOnly present p = cond (allowedTest present p) (described.Good p) described.Bad
 
--- the point that the numbers of a call draw, if each is in its range and the target keeps its rule
-unfoldable pub drawnFrom : ℕ → ℕ → Track → ℤ → ℤ → ℤ → ℤ → ℤ → Drawn
-drawnFrom present i owner position event wait command target =
+-- the point that the numbers of a call describe, if each is in its range and the target keeps its rule
+unfoldable pub describedBy : ℕ → ℕ → Track → ℤ → ℤ → ℤ → ℤ → ℤ → Described
+describedBy present i owner position event wait command target =
     onPlace (within (owner .min .0) (owner .max .0) (coordinateOf position))
     (λ l. onNatural (naturalOf event 1 eventMost)
     (λ e. onNatural (naturalOf wait 0 1)
     (λ w. onNatural (naturalOf command 0 4)
     (λ c. onNatural (naturalOf target 0 15)
-    (λ g. ableOnly present (pointWith i l e w c g)) drawn.Bad) drawn.Bad) drawn.Bad) drawn.Bad) drawn.Bad
+    (λ g. allowedOnly present (pointWith i l e w c g)) described.Bad) described.Bad) described.Bad) described.Bad) described.Bad
 
 -- 5 a 257th point (replacing one is no new point)
 abbrev pub putPoints : Board → ℕ → Stored → Outcome
 putPoints b refusal s =
     cond (s .done) (accepted (boardWith b (b .tracks) (b .present) (s .points) (b .held))) (refused refusal b)
 
-abbrev pub onDrawn : Board → Drawn → Outcome
-onDrawn b (drawn.Good p) = putPoints b 5 (storedIn (b .points) (keyOf p) (infoOf p))
-onDrawn b drawn.Bad = refused 3 b
+abbrev pub onDescribed : Board → Described → Outcome
+onDescribed b (described.Good p) = putPoints b 5 (storedIn (b .points) (keyOf p) (infoOf p))
+onDescribed b described.Bad = refused 3 b
 
 -- 3 broken, 1 track, 2 mode (STOPPED or PAUSED), 3 a value, 5 full
 unfoldable pub setPoint : Board → ℤ → ℤ → ℤ → ℤ → ℤ → ℤ → Outcome
 setPoint b track position event wait command target =
-    whole b
+    onUnbroken b
     (onTrack b track
     (λ i. cond (settled (trackAt (b .tracks) i .mode))
-    (onDrawn b (drawnFrom (b .present) i (trackAt (b .tracks) i) position event wait command target)) (refused 2 b)))
+    (onDescribed b (describedBy (b .present) i (trackAt (b .tracks) i) position event wait command target)) (refused 2 b)))
 
 -- 3 broken, 1 track, 2 mode, 4 no point there; any position is taken, one outside the bounds has no point
 unfoldable pub dropPoint : Board → ℤ → ℤ → Outcome
 dropPoint b track position =
-    whole b
+    onUnbroken b
     (onTrack b track
     (λ i. cond (settled (trackAt (b .tracks) i .mode))
     (onPlace (coordinateOf position) (λ l. putPoints b 4 (droppedFrom (b .points) (key i (l .0)))) (refused 4 b)) (refused 2 b)))
 
 -- ---- clear: held becomes 0
 unfoldable pub clearBoard : Board → Outcome
-clearBoard b = whole b (accepted (boardWith b (b .tracks) (b .present) (b .points) 0))
+clearBoard b = onUnbroken b (accepted (boardWith b (b .tracks) (b .present) (b .points) 0))

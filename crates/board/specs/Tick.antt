@@ -93,8 +93,8 @@ abbrev pub reachedBy : ℕ → List ℕ
 reachedBy d = cond (eqb d 0) [] (d ∷ [])
 
 -- a step after which commands are to run, or other tracks play: its point has a command, or the track plays no more
-abbrev pub stirring : ℕ → ℕ → Bool
-stirring d mode = not (eqb (commandOf d) 0) || not (eqb mode PLAYING)
+abbrev pub needsMore : ℕ → ℕ → Bool
+needsMore d mode = not (eqb (commandOf d) 0) || not (eqb mode PLAYING)
 
 unfoldable pub stepMember : List ℕ → List ℕ → ℕ → ℕ → Stage → Stage
 stepMember keys infos clock i s =
@@ -127,9 +127,9 @@ obeyedRecords clock d t = cond (eqb (commandOf d) 0) [] (commandRecords clock d 
 unfoldable pub runCommand : ℕ → ℕ → Stage → Stage
 runCommand clock d s =
     let t = trackAt (s .tracks) (targetOf d) in
-    let ruling = gridOf (t .mode) (commandOf d) in
+    let chosen = gridOf (t .mode) (commandOf d) in
     cond (eqb (commandOf d) 0) s
-    (staged (set (s .tracks) (targetOf d) (commanded t ruling)) (s .records ++ commandRecords clock d t ruling) (s .reached))
+    (staged (set (s .tracks) (targetOf d) (commanded t chosen)) (s .records ++ commandRecords clock d t chosen) (s .reached))
 
 unfoldable pub runAll : ℕ → List ℕ → Stage → Stage
 runAll clock [] s = s

@@ -9,11 +9,11 @@ use crate::quiet::smaller;
 use crate::rules::unbroken;
 use crate::tick::Staged;
 use crate::tick::commit;
+use crate::tick::needs_more;
 use crate::tick::note;
 use crate::tick::playing;
 use crate::tick::run_commands;
 use crate::tick::step_member;
-use crate::tick::stirs;
 use track::Ticks;
 use track::Track;
 use track::number::Natural;
@@ -73,12 +73,12 @@ fn run<'a>(
             break 'ticks;
         }
         let most = smaller(wanted - taken, Ticks::END - clock);
-        let mut calm: u32 = 0;
+        let mut skipped: u32 = 0;
         if look {
             let stretch = quiet(tracks, word, keys, infos, n);
-            calm = smaller(stretch.0, most);
+            skipped = smaller(stretch.0, most);
         }
-        if calm == most {
+        if skipped == most {
             let moved = leapt(tracks, word, Ticks(most));
             tracks = moved;
             clock += most;
@@ -88,20 +88,20 @@ fn run<'a>(
         }
         let room = slots - held;
         if room < Staged::MOST {
-            let moved = leapt(tracks, word, Ticks(calm));
+            let moved = leapt(tracks, word, Ticks(skipped));
             back = moved;
         }
-        clock += calm;
-        taken += calm;
+        clock += skipped;
+        taken += skipped;
         let mut rest = word;
         let mut left = u16::count_ones(word);
         let mut staged: usize = 0;
         let mut m: usize = 0;
-        let mut stirred = false;
+        let mut more = false;
         while 0 < left {
             let i = u16::trailing_zeros(rest) as usize;
             let s = tracks[i];
-            let t = s.leap(Ticks(calm));
+            let t = s.leap(Ticks(skipped));
             let l = t.arrival();
             let here = i as u32 * Points::STRIDE + l.0;
             let d = Points::info_at(keys, infos, n, here);
@@ -110,7 +110,7 @@ fn run<'a>(
             tracks[i] = after;
             staged = r.count;
             m = note(&mut reached, m, d);
-            stirred = stirs(stirred, d, after.mode);
+            more = needs_more(more, d, after.mode);
             if room < staged {
                 tracks = back;
                 answer = Advanced::LogFull(Ticks(taken));
@@ -120,7 +120,7 @@ fn run<'a>(
             left -= 1;
         }
         let mut total = staged;
-        if stirred {
+        if more {
             let done = run_commands(
                 tracks,
                 present,

@@ -15,11 +15,11 @@ ghost use mathlib.Core.Path.{_≡_};
 ghost use lib.ListN.{length};
 ghost use Rattle.track.specs.declared.setup.Answer.the-variants as answer;
 ghost use Rattle.board.specs.Board.{boardOf};
-ghost use Rattle.board.specs.Call.{Gives, does, modeDoes, Judges, world, answered};
+ghost use Rattle.board.specs.Call.{Gives, does, modeDoes, ChangesMode, world, answered};
 ghost use Rattle.board.specs.declared.call.Call.the-variants.{Play, Pause, Resume, Stop};
 
 // What a mode call comes to: the answer, the one track that it may change, and the number of records held.
-pub struct Ruled {
+pub struct ModeChange {
     pub answer: Answer,
     pub at: usize,
     pub track: Track,
@@ -27,10 +27,10 @@ pub struct Ruled {
 }
 
 // Refused: the first track stands for the one that changes, and does not.
-fn declined(number: u8, first: Track, held: u64) -> Ruled
+fn declined(number: u8, first: Track, held: u64) -> ModeChange
     ensures { λ r. ⌜ r ≡ record { answer = answer.Refused number; at = 0; track = first; held = held } ⌝ }
 {
-    Ruled {
+    ModeChange {
         answer: Answer::Refused(number),
         at: 0,
         track: first,
@@ -39,7 +39,7 @@ fn declined(number: u8, first: Track, held: u64) -> Ruled
 }
 
 // The call on a board that is given by its parts.
-pub fn judge<'a>(
+pub fn change_mode<'a>(
     tracks: [Track; Board::TRACKS],
     present: u16,
     clock: Ticks,
@@ -50,8 +50,8 @@ pub fn judge<'a>(
     track: i64,
     call: u8,
     log: &mut [u8],
-) -> Ruled
-    ensures { λ r. ⌜ Judges call track (boardOf tracks present (now (keys .entry)) (now (infos .entry)) n (clock .0) held)
+) -> ModeChange
+    ensures { λ r. ⌜ ChangesMode call track (boardOf tracks present (now (keys .entry)) (now (infos .entry)) n (clock .0) held)
         (now (log .entry)) r (now (log .exit)) ⌝ }
 {
     let first = tracks[0];
@@ -73,7 +73,7 @@ pub fn judge<'a>(
     };
     let after = t.entered(new);
     if t.action(mode, new) == 0 {
-        return Ruled {
+        return ModeChange {
             answer: Answer::Accepted,
             at,
             track: after,
@@ -87,7 +87,7 @@ pub fn judge<'a>(
     let passes = t.passes;
     let slot = held as usize;
     let count = stage_change(log, slot, clock, i as u8, t, new, position, passes);
-    Ruled {
+    ModeChange {
         answer: Answer::Accepted,
         at,
         track: after,
@@ -100,7 +100,7 @@ fn mode_call(b: Board, track: i64, call: u8, log: &mut [u8]) -> Outcome
     ensures { λ r. ⌜ Gives (modeDoes call track (world b (now (log .entry)))) (answered (r .answer)) (r .board) (now (log .exit)) ⌝ }
 {
     let tracks = b.tracks;
-    let r = judge(
+    let r = change_mode(
         tracks,
         b.present,
         b.clock,

@@ -11,7 +11,7 @@ ghost use lib.ListN.{length, take};
 ghost use Rattle.track.specs.Rule.{Valid, clockEnd};
 ghost use Rattle.board.specs.Points.{ascendingFrom, trackCount};
 ghost use Rattle.board.specs.Tick.{members};
-ghost use Rattle.board.specs.Quiet.{Telling, ToPoint, QuietSteps, Leapable, Fewest, leapInto};
+ghost use Rattle.board.specs.Quiet.{NonzeroInfos, ToPoint, QuietSteps, Leapable, Fewest, leapInto};
 
 // The ticks before the first that reaches a point of the track, or the clock's end where its span has none: the point
 // at the next location or the nearest further on, else the one on home or the nearest further on from there.
@@ -20,7 +20,7 @@ fn to_point<'a>(t: Track, track: u32, keys: &'a [u32], infos: &'a [u32], n: usiz
     requires { ⌜ track < trackCount ⌝ }
     requires { ⌜ (n ≤ length (now keys)) × (n ≤ length (now infos)) ⌝ }
     requires { ⌜ ascendingFrom 0 (take n (now keys)) ≡ true ⌝ }
-    requires { ⌜ Telling (take n (now keys)) (take n (now infos)) ⌝ }
+    requires { ⌜ NonzeroInfos (take n (now keys)) (take n (now infos)) ⌝ }
     ensures { λ r. ⌜ ToPoint (take n (now (keys .entry))) track t (r .0) ⌝ }
 {
     let backward = t.direction == Track::BACKWARD;
@@ -53,7 +53,7 @@ fn quiet_steps<'a>(t: Track, track: u32, keys: &'a [u32], infos: &'a [u32], n: u
     requires { ⌜ track < trackCount ⌝ }
     requires { ⌜ (n ≤ length (now keys)) × (n ≤ length (now infos)) ⌝ }
     requires { ⌜ ascendingFrom 0 (take n (now keys)) ≡ true ⌝ }
-    requires { ⌜ Telling (take n (now keys)) (take n (now infos)) ⌝ }
+    requires { ⌜ NonzeroInfos (take n (now keys)) (take n (now infos)) ⌝ }
     ensures { λ r. ⌜ QuietSteps (take n (now (keys .entry))) track t (r .0) ⌝ }
 {
     let point = to_point(t, track, keys, infos, n);
@@ -81,7 +81,7 @@ pub(crate) fn quiet<'a>(
     requires { ⌜ Leapable tracks (members word) ⌝ }
     requires { ⌜ (n ≤ length (now keys)) × (n ≤ length (now infos)) ⌝ }
     requires { ⌜ ascendingFrom 0 (take n (now keys)) ≡ true ⌝ }
-    requires { ⌜ Telling (take n (now keys)) (take n (now infos)) ⌝ }
+    requires { ⌜ NonzeroInfos (take n (now keys)) (take n (now infos)) ⌝ }
     ensures { λ r. ⌜ Fewest (take n (now (keys .entry))) tracks (members word) clockEnd (r .0) ⌝ }
 {
     let mut fewest: u32 = Ticks::END;

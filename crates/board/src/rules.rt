@@ -10,7 +10,7 @@ ghost use mathlib.Core.Path.{_≡_};
 ghost use Prim.Native.Nat.{_+_, _^_, _≤_, _<_};
 ghost use lib.ListN.{length, take};
 ghost use Rattle.board.specs.Points.{trackCount};
-ghost use Rattle.board.specs.Board.{isPresent, tracksTest, placeTest, deedTest, pointsTest, unbrokenParts, foundIn};
+ghost use Rattle.board.specs.Board.{isPresent, tracksTest, placeTest, allowedTest, pointsTest, unbrokenParts, foundIn};
 ghost use Rattle.track.specs.Rule.{soundTest};
 ghost use mathlib.Core.Bool.{false, not, _||_};
 
@@ -87,8 +87,8 @@ fn placed(present: u16, owner: Track, p: Point) -> bool
 }
 
 // Whether a point's event, command and target are what they may be.
-pub(crate) fn able(present: u16, p: Point) -> bool
-    ensures { λ r. ⌜ r ≡ deedTest present p ⌝ }
+pub(crate) fn allowed(present: u16, p: Point) -> bool
+    ensures { λ r. ⌜ r ≡ allowedTest present p ⌝ }
 {
     let event = p.event;
     let wait = p.wait;
@@ -142,7 +142,7 @@ fn points_kept<'a>(
         if !placed(present, owner, p) {
             return false;
         }
-        if !able(present, p) {
+        if !allowed(present, p) {
             return false;
         }
         low = k + 1;

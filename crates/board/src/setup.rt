@@ -2,7 +2,7 @@
 use crate::Board;
 use crate::points::Point;
 use crate::points::Points;
-use crate::rules::able;
+use crate::rules::allowed;
 use crate::rules::found;
 use crate::rules::is_present;
 use crate::rules::unbroken;
@@ -17,7 +17,7 @@ use track::setup::Change;
 use track::setup::settled;
 ghost use mathlib.Core.Path.{_≡_};
 ghost use Prim.Native.Nat.{_<_};
-ghost use Rattle.board.specs.Setup.{refused, accepted, drawnFrom};
+ghost use Rattle.board.specs.Setup.{refused, accepted, describedBy};
 ghost use Rattle.board.specs.Call.{Leaves, answered};
 ghost use Rattle.board.specs.declared.call.Call.the-variants as call;
 
@@ -27,8 +27,8 @@ pub struct Outcome {
     pub board: Board,
 }
 
-// The point that the numbers of a call draw, or that one of them is outside its range or rule.
-pub enum Drawn {
+// The point that the numbers of a call describe, or that one of them is outside its range or rule.
+pub enum Described {
     Good(Point),
     Bad,
 }
@@ -51,8 +51,8 @@ pub fn accepted(board: Board) -> Outcome
     }
 }
 
-// The point that the numbers of a call draw for a track.
-fn draw(
+// The point that the numbers of a call describe for a track.
+fn describe(
     present: u16,
     track: u8,
     owner: Track,
@@ -61,25 +61,25 @@ fn draw(
     wait: i64,
     command: i64,
     target: i64,
-) -> Drawn
-    ensures { λ r. ⌜ r ≡ drawnFrom present track owner position event wait command target ⌝ }
+) -> Described
+    ensures { λ r. ⌜ r ≡ describedBy present track owner position event wait command target ⌝ }
 {
     let low = owner.min;
     let high = owner.max;
     let Place::At(l) = Coordinate::between(position, low, high) else {
-        return Drawn::Bad;
+        return Described::Bad;
     };
     let Natural::In(e) = in_range(event, 1, Track::EVENT) else {
-        return Drawn::Bad;
+        return Described::Bad;
     };
     let Natural::In(w) = in_range(wait, 0, 1) else {
-        return Drawn::Bad;
+        return Described::Bad;
     };
     let Natural::In(c) = in_range(command, 0, 4) else {
-        return Drawn::Bad;
+        return Described::Bad;
     };
     let Natural::In(g) = in_range(target, 0, Board::LAST) else {
-        return Drawn::Bad;
+        return Described::Bad;
     };
     let p = Point {
         track,
@@ -89,10 +89,10 @@ fn draw(
         command: c as u8,
         target: g as u8,
     };
-    if able(present, p) {
-        return Drawn::Good(p);
+    if allowed(present, p) {
+        return Described::Good(p);
     }
-    Drawn::Bad
+    Described::Bad
 }
 
 impl Board {
@@ -192,7 +192,7 @@ impl Board {
         if !settled(owner.mode) {
             return refused(Answer::MODE, self);
         }
-        let Drawn::Good(p) = draw(
+        let Described::Good(p) = describe(
             self.present,
             i as u8,
             owner,

@@ -19,7 +19,7 @@ ghost use Rattle.track.specs.Grid.{gridOf};
 ghost use Rattle.track.specs.Walk.{arrival, step};
 ghost use Rattle.board.specs.Log.{writeAt, logBytes, recordWidth};
 ghost use Rattle.board.specs.Tick.{pointRecords, changeRecords, stepRecords, commandRecords, commanded, obeyed, obeyedRecords, runAll};
-ghost use Rattle.board.specs.Tick.{staged, reachedBy, stirring, playBit, playingWord, InfoRule, TracksRule};
+ghost use Rattle.board.specs.Tick.{staged, reachedBy, needsMore, playBit, playingWord, InfoRule, TracksRule};
 ghost use Rattle.board.specs.Points.{waits, commandOf};
 
 // A track after its step or a command, and the number of records staged.
@@ -181,11 +181,11 @@ pub(crate) fn note(reached: &mut [u32], m: usize, d: u32) -> usize
 }
 
 // Whether the tick so far needs more than its steps: a point reached has a command to run, or a track plays no longer, so that the
-// word of playing tracks changes. `stirred` says so of the steps before this one.
-pub(crate) fn stirs(stirred: bool, d: u32, mode: u8) -> bool
-    ensures { λ r. ⌜ r ≡ (stirred || stirring d mode) ⌝ }
+// word of playing tracks changes. `more` says so of the steps before this one.
+pub(crate) fn needs_more(more: bool, d: u32, mode: u8) -> bool
+    ensures { λ r. ⌜ r ≡ (more || needsMore d mode) ⌝ }
 {
-    if stirred {
+    if more {
         return true;
     }
     if d / Point::COMMAND % 8 != 0 {

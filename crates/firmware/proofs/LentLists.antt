@@ -12,24 +12,24 @@ use Rattle.track.specs.declared.setup.Change.the-variants as change
 use Rattle.track.specs.Grid.{PLAY, PAUSE, RESUME, STOP}
 use Rattle.board.specs.declared.Board.{Board}
 use Rattle.board.specs.Board.{freshBoard}
-use Rattle.board.specs.Mode.{modeRuling}
+use Rattle.board.specs.Mode.{modeResult}
 use Rattle.board.specs.Cut.{performs}
 use Rattle.board.specs.Replay.{World, perform}
 use Rattle.board.specs.declared.call.Advanced.{Advanced}
 use Rattle.board.specs.declared.call.Advanced.the-variants as advance
 use Rattle.board.specs.declared.call.Call.{Call}
 use Rattle.board.specs.declared.call.Call.the-variants as call
-use Rattle.board.specs.Call.{Reply, refused, answered, advancedSaid, saysOf, countOf, gridstep, does, world, Gives}
+use Rattle.board.specs.Call.{Reply, refused, answered, advancedSaid, saysOf, runCount, gridstep, does, world, Gives}
 use Rattle.board.specs.Row.{callAt, numbersOf, rowDoes}
 use Rattle.board.specs.Lists.{cutUp}
-use Rattle.board.proofs.row.Telling.{replyIn}
+use Rattle.board.proofs.row.Replies.{replyIn}
 use Rattle.board.proofs.lists.Answers.{answer-told}
 use Rattle.board.proofs.lists.Replayed.{Step, Trace, nothing, then, Demand3, demand-3, gives-step}
 use Rattle.firmware.specs.declared.value.Ending.{Ending}
 use Rattle.firmware.specs.declared.door.Replied.{Replied}
 use Rattle.firmware.specs.Numbers.{numberOf, numberSaid, endingSaid}
 use Rattle.firmware.specs.Door.{RowGives}
-use Rattle.firmware.proofs.Numbering.{ruling-said, gives-as}
+use Rattle.firmware.proofs.Numbering.{result-said, gives-as}
 use Rattle.firmware.proofs.Lent.{promised}
 use Rattle.firmware.proofs.door.gridstep_call.Reads as door-says
 
@@ -172,12 +172,12 @@ module _ (κs : Lfts 1) {cs : List Call} (w : World Board) {xs : List Reply} {u 
   by-door : {c : Call} → Rowed c → Made cs (does c w .left) xs u → Made (c ∷ cs) w (does c w .answer ∷ xs) u
   by-door {c} z t = (opened (z .0) (z .1) (opens κs (z .0) c w (z .1)) (sym (answer-told c w)) (t .0), t .1)
 
-  -- a mode call, whose answer is a ruling's
-  by-mode : (calls : ℤ → Call) (i : ℤ) (code : ℕ) → does (calls i) w .answer ≡ answered (modeRuling (w .board) (length (w .log)) i code .answer)
+  -- a mode call
+  by-mode : (calls : ℤ → Call) (i : ℤ) (code : ℕ) → does (calls i) w .answer ≡ answered (modeResult (w .board) (length (w .log)) i code .answer)
       → Made cs (does (calls i) w .left) xs u → Made (calls i ∷ cs) w (does (calls i) w .answer ∷ xs) u
   by-mode calls i code e t =
-      let s = ruling-said (w .board) (length (w .log)) i code in (
-        moded calls i (numberOf (modeRuling (w .board) (length (w .log)) i code .answer))
+      let s = result-said (w .board) (length (w .log)) i code in (
+        moded calls i (numberOf (modeResult (w .board) (length (w .log)) i code .answer))
             (record { answer-is = s ∙ sym e; board-is = refl; log-is = refl }) (e ∙ sym s) (t .0),
         t .1,
       )
@@ -205,7 +205,7 @@ by-advance κs w n t =
 
 by-call : (κs : Lfts 1) (c : Call) {cs : List Call} (w : World Board) {xs : List Reply} {u : World Board}
     → Made cs (does c w .left) xs u → Made (c ∷ cs) w (does c w .answer ∷ xs) u
-unfolding countOf saysOf
+unfolding runCount saysOf
 by-call κs (call.AddTrack i lo hi) w t = by-door κs w (pos 1 ∷ i ∷ lo ∷ hi ∷ [], refl) t
 by-call κs (call.SetUp i c) w t = by-door κs w (rowed i c) t
 by-call κs (call.SetPoint i p e f c g) w t = by-door κs w (pos 7 ∷ i ∷ p ∷ e ∷ f ∷ c ∷ g ∷ [], refl) t

@@ -17,23 +17,23 @@ use Rattle.board.specs.Board.{trackAt, unbrokenTest, foundIn}
 use Rattle.board.proofs.setup.Ways.{by-natural}
 use Rattle.board.specs.Cut.{Did}
 use Rattle.board.specs.Replay.{World}
-use Rattle.board.specs.Mode.{Ruling, declined, callRecords, changesTo, decided, modeRuling}
+use Rattle.board.specs.Mode.{ModeResult, declined, callRecords, changesTo, decided, modeResult}
 use Rattle.board.specs.Log.{capacity}
 use Rattle.board.specs.Call.{Reply, answered, modeDoes, Gives}
 use Rattle.firmware.specs.Numbers.{numberOf, numberSaid}
 
--- what a ruling answers is said by its number: 3, 7, 1, 2 and 8 are no 0
-ruling-numbered : (b : Board) (n : ℕ) (track : ℤ) (code : ℕ) →
-    let a = modeRuling b n track code .answer in
+-- what a mode call answers is said by its number: 3, 7, 1, 2 and 8 are no 0
+result-numbered : (b : Board) (n : ℕ) (track : ℤ) (code : ℕ) →
+    let a = modeResult b n track code .answer in
     numberSaid (numberOf a) ≡ answered a
-unfolding modeRuling decided changesTo
-ruling-numbered b n track code =
+unfolding modeResult decided changesTo
+result-numbered b n track code =
     cond-cases P (unbrokenTest b)
     (λ _. cond-cases P (leb (b .held) (capacity n))
     (λ _. by-natural P (foundIn (b .present) track) _ (declined 1 b) (λ i _. go i (gridOf (trackAt (b .tracks) i .mode) code)) refl)
     (λ _. refl)) (λ _. refl)
   where
-    P : Ruling → Type 0
+    P : ModeResult → Type 0
     P m = numberSaid (numberOf (m .answer)) ≡ answered (m .answer)
 
     go : (i : ℕ) (d : Decision) → P (decided b n i d)
@@ -45,9 +45,9 @@ said : (n : ℕ) → answered (answerOf n) ≡ numberSaid n
 said zero = refl
 said (suc n) = refl
 
--- so does the number of what a ruling answers
-pub ruling-said : (b : Board) (n : ℕ) (track : ℤ) (code : ℕ) → numberSaid (numberOf (modeRuling b n track code .answer)) ≡ answered (modeRuling b n track code .answer)
-ruling-said b n track code = sym (said (numberOf (modeRuling b n track code .answer))) ∙ ap answered (ruling-numbered b n track code)
+-- so does the number of what a mode call answers
+pub result-said : (b : Board) (n : ℕ) (track : ℤ) (code : ℕ) → numberSaid (numberOf (modeResult b n track code .answer)) ≡ answered (modeResult b n track code .answer)
+result-said b n track code = sym (said (numberOf (modeResult b n track code .answer))) ∙ ap answered (result-numbered b n track code)
 
 -- answers that say the same have the same number
 same-number : (a b : Answer) → answered a ≡ answered b → numberOf a ≡ numberOf b
@@ -66,5 +66,5 @@ pub gives-number : (code : ℕ) (track : ℤ) (w : World Board) (a : Answer) {bo
 unfolding modeDoes
 gives-number code track w a g q =
     let n = length (w .log) in
-    let m = modeRuling (w .board) n track code in
-    gives-as (ap numberSaid (q ∙ same-number a (m .answer) (g .answer-is)) ∙ ruling-numbered (w .board) n track code ∙ sym (g .answer-is)) g
+    let m = modeResult (w .board) n track code in
+    gives-as (ap numberSaid (q ∙ same-number a (m .answer) (g .answer-is)) ∙ result-numbered (w .board) n track code ∙ sym (g .answer-is)) g

@@ -1,7 +1,7 @@
 // The same calls on a board that is given by its parts, with answers that are numbers.
 use board::Board;
 use board::call::Advanced;
-use board::mode::judge;
+use board::mode::change_mode;
 use track::Ticks;
 use track::Track;
 use track::setup::Answer;
@@ -60,7 +60,7 @@ fn mode_call<'a>(
 ) -> Answered
     ensures { λ r. ⌜ Rules call (boardOf tracks present (now (keys .entry)) (now (infos .entry)) n (clock .0) held) track (now (log .entry)) r (now (log .exit)) ⌝ }
 {
-    let r = judge(
+    let r = change_mode(
         tracks,
         present,
         clock,

@@ -13,7 +13,7 @@ use Rattle.script.specs.Lines.{ahead, lineMost}
 use Rattle.script.specs.declared.number.Number.{Number}
 use Rattle.script.specs.declared.number.Number.the-variants as number
 use Rattle.script.specs.Number.{numberOf}
-use Rattle.script.specs.Word.{codeOf, countOf}
+use Rattle.script.specs.Word.{codeOf, numbersAfter}
 use Rattle.script.specs.declared.grammar.Row.{Row}
 
 -- ---- fields
@@ -48,7 +48,7 @@ rowCall c none = none
 -- a word, and the numbers that it takes
 abbrev pub fieldsCall : List (List ℕ) → Option Call
 fieldsCall [] = none
-fieldsCall (w ∷ fs) = rowCall (codeOf w) (numbersOf (countOf (codeOf w)) fs)
+fieldsCall (w ∷ fs) = rowCall (codeOf w) (numbersOf (numbersAfter (codeOf w)) fs)
 
 -- the call of a line; none is 9
 unfoldable pub lineCall : List ℕ → Option Call

@@ -69,9 +69,9 @@ linesOver k [] = lastLine k
 linesOver k (p ∷ ps) = linesIn k p ++ linesOver (openAfter k p) ps
 
 -- the input that pieces make
-abbrev pub whole : List (List ℕ) → List ℕ
-whole [] = []
-whole (p ∷ ps) = p ++ whole ps
+abbrev pub joinedPieces : List (List ℕ) → List ℕ
+joinedPieces [] = []
+joinedPieces (p ∷ ps) = p ++ joinedPieces ps
 
 -- ---- what the code holds
 

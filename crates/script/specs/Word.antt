@@ -54,8 +54,8 @@ abbrev pub codeOf : List ℕ → ℕ
 codeOf w = codeFrom 1 w forms
 
 -- how many numbers a code takes
-abbrev pub countOf : ℕ → ℕ
-countOf c = getD (noForm ∷ forms) c noForm .count
+abbrev pub numbersAfter : ℕ → ℕ
+numbersAfter c = getD (noForm ∷ forms) c noForm .count
 
 -- ---- as the code compares them
 

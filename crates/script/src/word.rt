@@ -1,7 +1,7 @@
 // The word that a script line begins with.
 ghost use mathlib.Core.Path.{_≡_};
 ghost use Prim.Native.Nat.{_≤_, _<_};
-ghost use Rattle.script.specs.Word.{codeOf, countOf, packedOr0, packedAt};
+ghost use Rattle.script.specs.Word.{codeOf, numbersAfter, packedOr0, packedAt};
 
 // Words of lines.
 const WORDS: usize = 16;
@@ -70,7 +70,7 @@ const COUNTS: [usize; 17] = [0, 3, 2, 2, 2, 2, 2, 6, 2, 4, 2, 1, 1, 1, 1, 1, 0];
 
 pub(crate) fn count(code: usize) -> usize
     requires { ⌜ code ≤ 16 ⌝ }
-    ensures count { λ r. ⌜ r ≡ countOf code ⌝ }
+    ensures count { λ r. ⌜ r ≡ numbersAfter code ⌝ }
     ensures few { λ r. ⌜ r ≤ 6 ⌝ }
 {
     COUNTS[code]

@@ -28,10 +28,10 @@ use Rattle.board.specs.Board.{unbrokenParts, unbrokenTest, pointsTest, t
 use Rattle.board.specs.Points.{pointMost, keysOf, infosOf, trackCount}
 use Rattle.board.specs.Tick.{Stage, staged, tickFrom, playingWord, members}
 use Rattle.board.specs.Replay.{Each}
-use Rattle.board.specs.Quiet.{Calm, Leapable, leapTracks, leapInto}
+use Rattle.board.specs.Quiet.{QuietFor, Leapable, leapTracks, leapInto}
 use Rattle.board.specs.Cut.{Ran, Did, ticks, counted, sorted}
 use Rattle.board.specs.Replay.{World, w-halt, w-step, w-bar, perform}
-use Rattle.board.specs.Call.{Reply, refused, Stop, ends, fills, gridstep, haltOf, barOf, barred, saysOf, makesOf, most, taken?, countOf, advanceBy, does, Gives, world, stoppedBy, advancedSaid}
+use Rattle.board.specs.Call.{Reply, refused, Stop, ends, fills, gridstep, haltOf, barOf, barred, saysOf, makesOf, most, taken?, runCount, advanceBy, does, Gives, world, stoppedBy, advancedSaid}
 use Rattle.board.specs.Advance.{Ended, boardLeft}
 use Rattle.board.proofs.replay.Cuts.{ticks-on, advance-in, advance-out, later, later-on, later-off, later-done, later-leap}
 use Rattle.board.proofs.replay.Replays.{sets-write}
@@ -181,8 +181,8 @@ module _ (b : Board) (count : ℕ) (log₀ log : List ℕ) (ts : List Track) (cl
 -- ---- a leap over quiet ticks
 
 module _ (b : Board) (log : List ℕ) (ts : List Track) (clock held r : ℕ) (l : length ts ≡ trackCount)
-    (able : Leapable ts (members (playingWord (b .present) ts)))
-    (calm : Each (λ i. Calm (keysOf (b .points)) r i (trackAt ts i)) (members (playingWord (b .present) ts)))
+    (leapable : Leapable ts (members (playingWord (b .present) ts)))
+    (skipped : Each (λ i. QuietFor (keysOf (b .points)) r i (trackAt ts i)) (members (playingWord (b .present) ts)))
     (fit : held ≤ capacity (length log)) where
   abbrev leapt : ℕ → List Track
   leapt j = leapTracks j (b .present) ts
@@ -191,7 +191,7 @@ module _ (b : Board) (log : List ℕ) (ts : List Track) (clock held r : ℕ) (l 
   at j = world (boardAt b (leapt j) (clock + j) held) log
 
   quiet-stage : (j : ℕ) → j < r → stageOf b log (leapt j) (clock + j) held ≡ staged (leapt (suc j)) [] []
-  quiet-stage j h = stretch-ticks (keysOf (b .points)) (infosOf (b .points)) (b .present) ts l able r calm (clock + j + 1) j h
+  quiet-stage j h = stretch-ticks (keysOf (b .points)) (infosOf (b .points)) (b .present) ts l leapable r skipped (clock + j + 1) j h
 
   none-written : (j : ℕ) → j < r → held + length (stageOf b log (leapt j) (clock + j) held .records) ≤ capacity (length log)
   none-written j h = omega (arith, ap (λ (s : Stage). length (s .records)) (quiet-stage j h))
@@ -217,7 +217,7 @@ module _ (b : Board) (log : List ℕ) (ts : List Track) (clock held r : ℕ) (l 
   keeps-at : unbrokenTest (boardAt b ts clock held) ≡ true → (k : ℕ) → k ≤ r → clock + k ≤ clockEnd → unbrokenTest (boardAt b (leapt k) (clock + k) held) ≡ true
   keeps-at u zero h c =
       subst (λ (w : World Board). unbrokenTest (w .board) ≡ true)
-      (λ j. world (boardAt b (sym (leap-tracks-zero (b .present) ts l able) j) (sym (add-zero clock) j) held) log) u
+      (λ j. world (boardAt b (sym (leap-tracks-zero (b .present) ts l leapable) j) (sym (add-zero clock) j) held) log) u
   keeps-at u (suc k) h c =
       let e : clock + k + 1 ≡ clock + suc k = omega arith in
       subst (λ (w : World Board). unbrokenTest (w .board) ≡ true)
@@ -225,10 +225,10 @@ module _ (b : Board) (log : List ℕ) (ts : List Track) (clock held r : ℕ) (l 
       (tick-keeps (boardAt b (leapt k) (clock + k) held) held (keeps-at u k (omega arith) (omega arith)) (omega arith))
 
 -- none are quiet, if nothing is known
-pub calm-none : (ks : List ℕ) (ts : List Track) (is : List ℕ) → Each (λ i. Calm ks 0 i (trackAt ts i)) is
+pub quiet-none : (ks : List ℕ) (ts : List Track) (is : List ℕ) → Each (λ i. QuietFor ks 0 i (trackAt ts i)) is
 unfolding Each
-calm-none ks ts [] = tt
-calm-none ks ts (i ∷ is) = (λ j h. absurd (omega arith), calm-none ks ts is)
+quiet-none ks ts [] = tt
+quiet-none ks ts (i ∷ is) = (λ j h. absurd (omega arith), quiet-none ks ts is)
 
 -- what the code leaps, by the word that it keeps
 pub leap-is : (k present word : ℕ) (ts : List Track) → word ≡ playingWord present ts → length ts ≡ trackCount
@@ -238,19 +238,19 @@ leap-is k present word ts e l = ap (λ (w : ℕ). leapInto k ts (members w) ts) 
 -- as many quiet ticks as are leapt are taken
 pub going-leap : (b : Board) (count : ℕ) (log₀ log : List ℕ) (ts : List Track) (clock held taken : ℕ) (answer : Advanced) →
     Going b count log₀ log ts clock held taken answer → (word r k : ℕ) → word ≡ playingWord (b .present) ts →
-    Leapable ts (members word) → Each (λ i. Calm (keysOf (b .points)) r i (trackAt ts i)) (members word) → k ≤ r → k ≤ count - taken →
+    Leapable ts (members word) → Each (λ i. QuietFor (keysOf (b .points)) r i (trackAt ts i)) (members word) → k ≤ r → k ≤ count - taken →
     k ≤ clockEnd - clock → {next : List Track} → next ≡ leapInto k ts (members word) ts → clock ≤ clockEnd →
     Going b count log₀ log next (clock + k) held (taken + k) (advanced.Done (record { 0 = taken + k }))
-going-leap b count log₀ log ts clock held taken answer g word r k ew able calm kr kc ke {next} en c =
-    let able′ = subst (λ (w : ℕ). Leapable ts (members w)) ew able in
-    let calm′ = subst (λ (w : ℕ). Each (λ i. Calm (keysOf (b .points)) r i (trackAt ts i)) (members w)) ew calm in
+going-leap b count log₀ log ts clock held taken answer g word r k ew leapable skipped kr kc ke {next} en c =
+    let leapable′ = subst (λ (w : ℕ). Leapable ts (members w)) ew leapable in
+    let skipped′ = subst (λ (w : ℕ). Each (λ i. QuietFor (keysOf (b .points)) r i (trackAt ts i)) (members w)) ew skipped in
     let fit : held ≤ capacity (length log) = rw (g .long) (g .fits) in
     let e : next ≡ leapTracks k (b .present) ts =
     en ∙ ap (λ (w : ℕ). leapInto k ts (members w) ts) ew ∙ leap-into k (b .present) ts (g .tracks-long) in
-    let run = ticks-at b log ts clock held r (g .tracks-long) able′ calm′ fit k 0 (omega arith) (omega arith) in
+    let run = ticks-at b log ts clock held r (g .tracks-long) leapable′ skipped′ fit k 0 (omega arith) (omega arith) in
     let z : 0 + k ≡ k = omega arith in
     let run′ : go k (world (boardAt b ts clock held) log) ≡ record { taken = k; why = none; end = world (boardAt b next (clock + k) held) log } =
-    (λ j. go k (world (boardAt b (sym (leap-tracks-zero (b .present) ts (g .tracks-long) able′) j) (sym (add-zero clock) j) held) log))
+    (λ j. go k (world (boardAt b (sym (leap-tracks-zero (b .present) ts (g .tracks-long) leapable′) j) (sym (add-zero clock) j) held) log))
     ∙ run
     ∙ (λ j. record { taken = k; why = none; end = world (boardAt b (leapTracks (z j) (b .present) ts) (clock + z j) held) log })
     ∙ (λ j. record { taken = k; why = none; end = world (boardAt b (sym e j) (clock + k) held) log }) in
@@ -259,7 +259,7 @@ going-leap b count log₀ log ts clock held taken answer g word r k ew able calm
       answer-is = refl;
       so-far = g .so-far ∙ later-leap halt step count taken (world (boardAt b ts clock held) log) k (world (boardAt b next (clock + k) held) log) (omega (arith, g .taken-le)) run′;
       whole = subst (λ (ns : List Track). unbrokenTest (boardAt b ns (clock + k) held) ≡ true) (sym e)
-          (keeps-at b log ts clock held r (g .tracks-long) able′ calm′ fit (g .whole) k kr (omega arith));
+          (keeps-at b log ts clock held r (g .tracks-long) leapable′ skipped′ fit (g .whole) k kr (omega arith));
       fits = g .fits;
       long = g .long;
       tracks-long = ap length e ∙ leap-tracks-long k (b .present) ts ∙ g .tracks-long;
@@ -278,10 +278,10 @@ module _ (b : Board) (log : List ℕ) (count : ℤ) where
 
   -- a refusal ahead of the count, whatever the count
   barred-gives : (k : ℕ) → barOf (length log) b ≡ some k → Gives given (refused k) b log
-  unfolding countOf saysOf makesOf
+  unfolding runCount saysOf makesOf
   barred-gives k e = at (naturalOf count 0 most) refl
     where
-      at : (n : Natural) → naturalOf count 0 most ≡ n → Gives (perform gridstep (sorted most countOf advanceBy (call.Advance count) (taken? n)) (world b log)) (refused k) b log
+      at : (n : Natural) → naturalOf count 0 most ≡ n → Gives (perform gridstep (sorted most runCount advanceBy (call.Advance count) (taken? n)) (world b log)) (refused k) b log
       at natural.Outside q =
           record {
             answer-is = sym (ap barred e);
@@ -312,9 +312,9 @@ module _ (b : Board) (log : List ℕ) (count : ℤ) where
 
     -- a count outside its range
     pub advance-outside : naturalOf count 0 most ≡ natural.Outside → Gives given (refused 3) b log
-    unfolding countOf saysOf makesOf
+    unfolding runCount saysOf makesOf
     advance-outside q =
-        subst (λ (n : Natural). Gives (perform gridstep (sorted most countOf advanceBy (call.Advance count) (taken? n)) (world b log)) (refused 3) b log) (sym q)
+        subst (λ (n : Natural). Gives (perform gridstep (sorted most runCount advanceBy (call.Advance count) (taken? n)) (world b log)) (refused 3) b log) (sym q)
         (record {
           answer-is = sym (ap barred open-bar);
           board-is = ap (λ (k : ℕ). boardWith b (b .tracks) (b .present) (b .points) k) (sym (add-zero (b .held)));
@@ -324,10 +324,10 @@ module _ (b : Board) (log : List ℕ) (count : ℤ) where
     -- so many ticks
     pub advance-runs : {n : ℕ} → naturalOf count 0 most ≡ natural.In n → {r : Left} {log′ : List ℕ} → Ended b (go n (world b log)) r log′ →
         Gives given (advancedSaid (r .answer)) (boardLeft b r) log′
-    unfolding countOf
+    unfolding runCount
     advance-runs {n} q {r} {log′} e =
         let o = advance-in halt step (w-bar gridstep) stoppedBy refused n (world b log) open-bar in
-        subst (λ (m : Natural). Gives (perform gridstep (sorted most countOf advanceBy (call.Advance count) (taken? m)) (world b log)) (advancedSaid (r .answer)) (boardLeft b r) log′) (sym q)
+        subst (λ (m : Natural). Gives (perform gridstep (sorted most runCount advanceBy (call.Advance count) (taken? m)) (world b log)) (advancedSaid (r .answer)) (boardLeft b r) log′) (sym q)
         (record {
           answer-is = e .answer-is ∙ sym (ap (λ (d : Did Reply (World Board)). d .answer) o);
           board-is = e .board-is ∙ sym (ap (λ (d : Did Reply (World Board)). d .left .board) o);

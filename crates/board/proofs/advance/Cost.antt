@@ -17,12 +17,12 @@ use Rattle.board.specs.Cut.{Ran, ticks}
 use Rattle.board.specs.Replay.{World, w-halt, w-step}
 use Rattle.board.proofs.replay.Cuts.{ticks-on, ticks-off}
 use Rattle.board.specs.Tick.{members, Stage, playingWord}
-use Rattle.board.specs.Quiet.{Fewest, Leapable, Telling, leapTracks}
+use Rattle.board.specs.Quiet.{Fewest, Leapable, NonzeroInfos, leapTracks}
 use Rattle.board.proofs.quiet.Leaps.{leap-tracks-long, leap-tracks-word}
 use Rattle.board.proofs.tick.Steps.{members-most}
 use Rattle.board.specs.Call.{Stop, gridstep, world}
 use Rattle.board.specs.declared.call.Advanced.{Advanced}
-use Rattle.board.specs.Advance.{written, turnsLeft}
+use Rattle.board.specs.Advance.{recordsLeft, turnsLeft}
 use Rattle.board.proofs.advance.Advancing.{Going, boardAt, go, stageOf}
 use Rattle.board.proofs.advance.Walked.{tick-starts, walked-tick}
 
@@ -32,7 +32,7 @@ one false = omega arith
 
 -- So a loop with `left` ticks to do goes round at most three times for each record that these ticks write, and 18 times more, however
 -- many they are: sixteen tracks play at most. A turn in which it is left comes behind.
-pub turns-bound : (look : Bool) (left : ℕ) (u : World Board) → turnsLeft look left u ≤ 3 * written left u + 18
+pub turns-bound : (look : Bool) (left : ℕ) (u : World Board) → turnsLeft look left u ≤ 3 * recordsLeft left u + 18
 turns-bound look left u = omega (arith, members-most trackCount 0 (playingWord (u .board .present) (u .board .tracks)), one look)
 
 -- ticks take no record back
@@ -71,9 +71,9 @@ module _ (b : Board) (count : ℕ) (log₀ : List ℕ) where
   abbrev playing : List Track → ℕ
   playing ts = length (members (playingWord (b .present) ts))
 
-  -- what is written in the end, told from where the loop stands
+  -- what is recordsLeft in the end, told from where the loop stands
   owed : {log : List ℕ} {ts : List Track} {clock held taken : ℕ} {answer : Advanced} → Going b count log₀ log ts clock held taken answer
-      → go count (world b log₀) .end .board .held ≡ held + written (count - taken) (here ts clock held log)
+      → go count (world b log₀) .end .board .held ≡ held + recordsLeft (count - taken) (here ts clock held log)
   owed {log} {ts} {clock} {held} {taken} g =
       omega (arith, ap (λ (x : Ran Stop (World Board)). x .end .board .held) (g .so-far), held-grows (count - taken) (here ts clock held log))
 
@@ -85,11 +85,11 @@ module _ (b : Board) (count : ℕ) (log₀ : List ℕ) where
         → min (count - taken′) (clockEnd - clock′) ≡ 0
         → turnsLeft look (count - taken′) (here ts′ clock′ held′ log′) < turnsLeft look (count - taken) (here ts clock held log)
     leap-less look h w e =
-        leap-pays (written (count - taken) (here ts clock held log)) (written (count - taken′) (here ts′ clock′ held′ log′)) (playing ts) (playing ts′) (cond look 0 1)
+        leap-pays (recordsLeft (count - taken) (here ts clock held log)) (recordsLeft (count - taken′) (here ts′ clock′ held′ log′)) (playing ts) (playing ts′) (cond look 0 1)
         _ _ (omega (arith, owed g, owed g′, h)) (ap (λ (x : ℕ). length (members x)) (sym w)) (more _ _ (omega arith) (omega arith)) (no-more _ _ e)
 
     -- the tick behind k quiet ones, all that there are if the turn looked for them, with so many records
-    module _ (k : ℕ) (able : Leapable ts (members (playingWord (b .present) ts))) (tell : Telling (keysOf (b .points)) (infosOf (b .points))) where
+    module _ (k : ℕ) (leapable : Leapable ts (members (playingWord (b .present) ts))) (tell : NonzeroInfos (keysOf (b .points)) (infosOf (b .points))) where
       abbrev ticked : Stage
       ticked = stageOf b log (leapTracks k (b .present) ts) (clock + k) held
 
@@ -103,8 +103,8 @@ module _ (b : Board) (count : ℕ) (log₀ : List ℕ) where
           → ((look ≡ true) → Fewest (keysOf (b .points)) ts (members (playingWord (b .present) ts)) clockEnd k)
           → turnsLeft (eqb total 0) (count - taken′) (here ts′ clock′ held′ log′) < turnsLeft look (count - taken) (here ts clock held log)
       walk-less look {total} h et er l f =
-          walk-pays (written (count - taken) (here ts clock held log)) (written (count - taken′) (here ts′ clock′ held′ log′)) total (playing ts) (playing ts′)
+          walk-pays (recordsLeft (count - taken) (here ts clock held log)) (recordsLeft (count - taken′) (here ts′ clock′ held′ log′)) total (playing ts) (playing ts′)
           _ _ look (omega (arith, owed g, owed g′, h)) (rw et (rw er starts)) (more _ _ (omega arith) (omega arith)) (omega arith)
           (λ e.
           rw et (rw er
-          (walked-tick (keysOf (b .points)) (infosOf (b .points)) (clock + k + 1) (b .present) ts (g .tracks-long) able tell clockEnd k (f e) l)))
+          (walked-tick (keysOf (b .points)) (infosOf (b .points)) (clock + k + 1) (b .present) ts (g .tracks-long) leapable tell clockEnd k (f e) l)))

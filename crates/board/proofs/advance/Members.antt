@@ -18,7 +18,7 @@ use Rattle.board.specs.Board.{noTrack, trackAt, isPresent, pointsTest}
 use Rattle.board.specs.Tick.{Stage, staged, stepRecords, reachedBy, foundBy, stepMember, stepAll, runAll, tickFrom, playingWord, InfoRule, TracksRule, tickMost}
 use Rattle.board.specs.Tick.{members}
 use Rattle.board.specs.Replay.{Each}
-use Rattle.board.specs.Quiet.{Able, Leapable}
+use Rattle.board.specs.Quiet.{CanLeap, Leapable}
 use Rattle.board.proofs.points.Keys.{ascending-head, ascending-rest}
 use Rattle.board.proofs.points.Rows.{ascending-weaken}
 use Rattle.board.proofs.tick.Staging.{length-log, log-append, step-most, reached-most}
@@ -66,7 +66,7 @@ pub record Stepping (b : Board) (ts : List Track) (clock word : ℕ) (stage reac
   pub bytes-are : take (count * recordWidth) stage ≡ logBytes records
   pub left-is : left ≡ ones rest
   pub small : rest < 65536
-  pub able : Leapable next (members rest)
+  pub leapable : Leapable next (members rest)
   pub rule : TracksRule (b .present) next (take m reached)
   pub few-records : count + 2 * left ≤ 2 * trackCount
   pub few-reached : m + left ≤ trackCount
@@ -87,7 +87,7 @@ stepping-start b ts clock word stage reached w a v l s r =
       bytes-are = refl;
       left-is = refl;
       small = w;
-      able = a;
+      leapable = a;
       rule = record { tracks = v; infos = λ j h. absurd (omega arith); targets = λ j h. absurd (omega arith) };
       few-records = omega arith;
       few-reached = omega arith;
@@ -129,7 +129,7 @@ module _ (b : Board) (ts : List Track) (clock word : ℕ) (stage reached : List 
       let most = step-most (clock + 1) i t d in
       let one = reached-most d in
       let fewer = low .fewer in
-      let able = subst (λ (is : List ℕ). Leapable next is) (low .rest) (s .able) in
+      let leapable = subst (λ (is : List ℕ). Leapable next is) (low .rest) (s .leapable) in
       let ascends = subst (λ (is : List ℕ). ascendingFrom 0 is ≡ true) (low .rest) (members-ascend trackCount 0 rest) in
       let width : count′ * recordWidth ≡ count * recordWidth + length (logBytes rs) = omega (arith, length-log rs) in
       let lrs = s .left-is in
@@ -146,7 +146,7 @@ module _ (b : Board) (ts : List Track) (clock word : ℕ) (stage reached : List 
             ∙ (λ j. s .bytes-are j ++ logBytes rs) ∙ sym (log-append (s .records) rs);
         left-is = omega arith;
         small = low .fits;
-        able = each-set Able next i u (members (cleared rest)) (ascending-rest 0 i (members (cleared rest)) ascends) (able .1);
+        leapable = each-set CanLeap next i u (members (cleared rest)) (ascending-rest 0 i (members (cleared rest)) ascends) (leapable .1);
         rule = subst (λ (x : Track). TracksRule (b .present) (set next i x) (take m′ reached′)) (sym eu)
             (subst (TracksRule (b .present) (set next i (step t (waits d)))) (sym er)
             (step-rule (b .present) next (take m reached) i (waits d) d (s .rule)

@@ -18,10 +18,10 @@ use Rattle.board.specs.declared.Board.{Board}
 use Rattle.board.specs.Log.{writeAt, recordWidth, logBytes}
 use Rattle.board.specs.Points.{ascendingFrom, keysOf, infosOf, waits, commandOf, trackCount}
 use Rattle.board.specs.Board.{noTrack, trackAt, isPresent, pointsTest}
-use Rattle.board.specs.Tick.{Stage, staged, stirring, stepRecords, reachedBy, foundBy, runCommand, runAll, tickFrom, playBit, playingWord, TracksRule, tickMost}
+use Rattle.board.specs.Tick.{Stage, staged, needsMore, stepRecords, reachedBy, foundBy, runCommand, runAll, tickFrom, playBit, playingWord, TracksRule, tickMost}
 use Rattle.board.specs.Tick.{members}
 use Rattle.board.specs.Replay.{Each}
-use Rattle.board.specs.Quiet.{Able, Leapable, leapInto, leapTracks}
+use Rattle.board.specs.Quiet.{CanLeap, Leapable, leapInto, leapTracks}
 use Rattle.board.proofs.points.Keys.{ascending-head, ascending-rest}
 use Rattle.board.proofs.points.Rows.{ascending-weaken}
 use Rattle.board.proofs.tick.Bits.{Lowest, cleared}
@@ -64,7 +64,7 @@ module _ (k i : ℕ) where
       into-from ts js (set us j (leap (trackAt (set ts i u) j) k)) u (ascending-weaken (suc i) (suc j) js (omega arith) (ascending-rest (suc i) j js a))
       ∙ ap (λ (t : Track). leapInto k ts js (set us j (leap t k))) (getD-set-other ts i j u noTrack (λ q. omega arith))
 
--- ---- what a step that stirs nothing keeps
+-- ---- what a step that needs no more keeps
 
 -- the playing word, where a track is replaced by one of its mode
 word-set : (present : ℕ) (ts : List Track) (i : ℕ) (u : Track) → u .mode ≡ trackAt ts i .mode → playingWord present (set ts i u) ≡ playingWord present ts
@@ -89,11 +89,11 @@ each-more [] d e a = go (eqb d 0)
     go false = (e, tt)
 each-more (x ∷ xs) d e a = (a .0, each-more xs d e (a .1))
 
--- ---- what stirs
+-- ---- what needs more than the steps
 
--- nothing stirs: nothing has, the point has no command, and the track plays
-stirs-not : (before : Bool) (d mode : ℕ) → (before || stirring d mode) ≡ false → (before ≡ false) × (commandOf d ≡ 0) × (mode ≡ PLAYING)
-stirs-not before d mode = go before (eqb (commandOf d) 0) (eqb mode PLAYING) (eqb-true (commandOf d) 0) (eqb-true mode PLAYING)
+-- nothing more is needed: nothing was, the point has no command, and the track plays
+needs-more-not : (before : Bool) (d mode : ℕ) → (before || needsMore d mode) ≡ false → (before ≡ false) × (commandOf d ≡ 0) × (mode ≡ PLAYING)
+needs-more-not before d mode = go before (eqb (commandOf d) 0) (eqb mode PLAYING) (eqb-true (commandOf d) 0) (eqb-true mode PLAYING)
   where
     go : (a b c : Bool) → (b ≡ true → commandOf d ≡ 0) → (c ≡ true → mode ≡ PLAYING) → (a || (not b || not c)) ≡ false
         → (a ≡ false) × (commandOf d ≡ 0) × (mode ≡ PLAYING)
@@ -106,7 +106,7 @@ stirs-not before d mode = go before (eqb (commandOf d) 0) (eqb mode PLAYING) (eq
 
 -- a playing track that can be leapt
 pub record Ready (t : Track) : Type 0 where
-  pub able : Able t
+  pub leapable : CanLeap t
   pub plays : t .mode ≡ PLAYING
 
 all-play : (n present : ℕ) (ts : List Track) → EachPlaying (λ n t. t .mode ≡ PLAYING) n present ts
@@ -117,30 +117,30 @@ all-play n present (t ∷ ts) = (λ h. bit-plays (present % 2) t h .0, all-play 
 each-ready : (ts : List Track) (is : List ℕ) → Leapable ts is → Each (λ i. trackAt ts i .mode ≡ PLAYING) is → Each (λ i. Ready (trackAt ts i)) is
 unfolding Each
 each-ready ts [] a p = tt
-each-ready ts (i ∷ is) a p = (record { able = a .0; plays = p .0 }, each-ready ts is (a .1) (p .1))
+each-ready ts (i ∷ is) a p = (record { leapable = a .0; plays = p .0 }, each-ready ts is (a .1) (p .1))
 
--- `calm` ticks leapt and one walked, of the members of `word` but for those of `rest`; so far `stirred` says whether a step stirs
-pub record Turning (b : Board) (ts : List Track) (clock word calm : ℕ) (stage reached : List ℕ) (next : List Track) (rest left count m : ℕ) (stirred : Bool) : Type 0 where
-  pub steps : Stepping b (leapTracks calm (b .present) ts) clock word stage reached (leapInto calm next (members rest) next) rest left count m
+-- `skipped` ticks leapt and one walked, of the members of `word` but for those of `rest`; so far `more` says whether a step needs more
+pub record Turning (b : Board) (ts : List Track) (clock word skipped : ℕ) (stage reached : List ℕ) (next : List Track) (rest left count m : ℕ) (more : Bool) : Type 0 where
+  pub steps : Stepping b (leapTracks skipped (b .present) ts) clock word stage reached (leapInto skipped next (members rest) next) rest left count m
   pub ready : Each (λ i. Ready (trackAt next i)) (members rest)
   pub long : length next ≡ trackCount
-  pub same-word : stirred ≡ false → word ≡ playingWord (b .present) next
-  pub no-command : stirred ≡ false → Each (λ d. commandOf d ≡ 0) (take m reached)
+  pub same-word : more ≡ false → word ≡ playingWord (b .present) next
+  pub no-command : more ≡ false → Each (λ d. commandOf d ≡ 0) (take m reached)
 
-pub turning-start : (b : Board) (ts : List Track) (clock word calm : ℕ) (stage reached : List ℕ) → word ≡ playingWord (b .present) ts → length ts ≡ trackCount →
-    Leapable ts (members word) → Leapable (leapTracks calm (b .present) ts) (members (playingWord (b .present) (leapTracks calm (b .present) ts))) →
-    ((i : ℕ) → isPresent (b .present) i ≡ true → Valid (trackAt (leapTracks calm (b .present) ts) i)) → length stage ≡ tickMost * recordWidth → length reached ≡ trackCount →
-    Turning b ts clock word calm stage reached ts word (ones word) 0 0 false
+pub turning-start : (b : Board) (ts : List Track) (clock word skipped : ℕ) (stage reached : List ℕ) → word ≡ playingWord (b .present) ts → length ts ≡ trackCount →
+    Leapable ts (members word) → Leapable (leapTracks skipped (b .present) ts) (members (playingWord (b .present) (leapTracks skipped (b .present) ts))) →
+    ((i : ℕ) → isPresent (b .present) i ≡ true → Valid (trackAt (leapTracks skipped (b .present) ts) i)) → length stage ≡ tickMost * recordWidth → length reached ≡ trackCount →
+    Turning b ts clock word skipped stage reached ts word (ones word) 0 0 false
 unfolding Each
-turning-start b ts clock word calm stage reached ew l able able′ valid s r =
-    let after = leapTracks calm (b .present) ts in
-    let w = leap-tracks-word calm (b .present) ts ∙ sym ew in
+turning-start b ts clock word skipped stage reached ew l leapable leapable′ valid s r =
+    let after = leapTracks skipped (b .present) ts in
+    let w = leap-tracks-word skipped (b .present) ts ∙ sym ew in
     record {
       steps = subst (λ (us : List Track). Stepping b after clock word stage reached us word (ones word) 0 0)
-          (sym (leap-into calm (b .present) ts l) ∙ ap (λ (v : ℕ). leapInto calm ts (members v) ts) (sym ew))
+          (sym (leap-into skipped (b .present) ts l) ∙ ap (λ (v : ℕ). leapInto skipped ts (members v) ts) (sym ew))
           (stepping-start b after clock word stage reached (subst (λ (v : ℕ). v < 65536) (sym ew) (word-small (b .present) ts l))
-          (subst (λ (v : ℕ). Leapable after (members v)) w able′) valid (leap-tracks-long calm (b .present) ts ∙ l) s r);
-      ready = each-ready ts (members word) able
+          (subst (λ (v : ℕ). Leapable after (members v)) w leapable′) valid (leap-tracks-long skipped (b .present) ts ∙ l) s r);
+      ready = each-ready ts (members word) leapable
           (subst (λ (v : ℕ). Each (λ i. trackAt ts i .mode ≡ PLAYING) (members v)) (sym ew)
           (each-member (λ n t. t .mode ≡ PLAYING) (b .present) ts l (all-play 0 (b .present) ts)));
       long = l;
@@ -148,8 +148,8 @@ turning-start b ts clock word calm stage reached ew l able able′ valid s r =
       no-command = λ e. tt;
     }
 
-module _ (b : Board) (ts : List Track) (clock word calm : ℕ) (stage reached : List ℕ) (next : List Track) (rest left count m : ℕ) (stirred : Bool)
-    (s : Turning b ts clock word calm stage reached next rest left count m stirred) where
+module _ (b : Board) (ts : List Track) (clock word skipped : ℕ) (stage reached : List ℕ) (next : List Track) (rest left count m : ℕ) (more : Bool)
+    (s : Turning b ts clock word skipped stage reached next rest left count m more) where
   abbrev i : ℕ
   i = trailingZeros 16 rest
 
@@ -171,55 +171,55 @@ module _ (b : Board) (ts : List Track) (clock word calm : ℕ) (stage reached : 
     first = readies .0
 
     -- it can be leapt
-    pub turning-able : Able (trackAt next i)
-    turning-able = first .able
+    pub turning-leapable : CanLeap (trackAt next i)
+    turning-leapable = first .leapable
 
     -- its leap is the one that stands in its place
-    ahead : leapInto calm next (members rest) next ≡ leapInto calm next (members (cleared rest)) (set next i (leap (trackAt next i) calm))
+    ahead : leapInto skipped next (members rest) next ≡ leapInto skipped next (members (cleared rest)) (set next i (leap (trackAt next i) skipped))
     unfolding leapInto
-    ahead = ap (λ (is : List ℕ). leapInto calm next is next) (turning-member .rest)
+    ahead = ap (λ (is : List ℕ). leapInto skipped next is next) (turning-member .rest)
 
-    its-leap : trackAt (leapInto calm next (members rest) next) i ≡ leap (trackAt next i) calm
+    its-leap : trackAt (leapInto skipped next (members rest) next) i ≡ leap (trackAt next i) skipped
     its-leap =
         ap (λ (us : List Track). trackAt us i) ahead
-        ∙ into-at calm i next (members (cleared rest)) (set next i (leap (trackAt next i) calm)) above
-        ∙ getD-set-same next i (leap (trackAt next i) calm) noTrack (omega (arith, s .long, turning-member .inside))
+        ∙ into-at skipped i next (members (cleared rest)) (set next i (leap (trackAt next i) skipped)) above
+        ∙ getD-set-same next i (leap (trackAt next i) skipped) noTrack (omega (arith, s .long, turning-member .inside))
 
-    -- the leapt track is able to step
-    pub turning-leapt : Able (leap (trackAt next i) calm)
+    -- the leapt track can step
+    pub turning-leapt : CanLeap (leap (trackAt next i) skipped)
     unfolding Each
     turning-leapt =
-        subst Able its-leap (subst (λ (is : List ℕ). Leapable (leapInto calm next (members rest) next) is) (turning-member .rest) (s .steps .able) .0)
+        subst CanLeap its-leap (subst (λ (is : List ℕ). Leapable (leapInto skipped next (members rest) next) is) (turning-member .rest) (s .steps .leapable) .0)
 
-    put : (u : Track) → set (leapInto calm next (members rest) next) i u ≡ leapInto calm (set next i u) (members (cleared rest)) (set next i u)
+    put : (u : Track) → set (leapInto skipped next (members rest) next) i u ≡ leapInto skipped (set next i u) (members (cleared rest)) (set next i u)
     put u =
         ap (λ (us : List Track). set us i u) ahead
-        ∙ into-set calm i next (members (cleared rest)) (set next i (leap (trackAt next i) calm)) u above
-        ∙ ap (leapInto calm next (members (cleared rest))) (set-set next i (leap (trackAt next i) calm) u)
-        ∙ sym (into-from calm i next (members (cleared rest)) (set next i u) u above)
+        ∙ into-set skipped i next (members (cleared rest)) (set next i (leap (trackAt next i) skipped)) u above
+        ∙ ap (leapInto skipped next (members (cleared rest))) (set-set next i (leap (trackAt next i) skipped) u)
+        ∙ sym (into-from skipped i next (members (cleared rest)) (set next i u) u above)
 
     -- one member leapt and stepped: its records staged, its point noted
     pub turning-step : (us : List Track) → pointsTest (b .present) us 0 (keysOf (b .points)) (infosOf (b .points)) ≡ true →
-        {x u : Track} {d count′ m′ : ℕ} {stage′ reached′ : List ℕ} {stirred′ : Bool} → x ≡ leap (trackAt next i) calm →
+        {x u : Track} {d count′ m′ : ℕ} {stage′ reached′ : List ℕ} {more′ : Bool} → x ≡ leap (trackAt next i) skipped →
         d ≡ foundBy (keysOf (b .points)) (infosOf (b .points)) i x → u ≡ step x (waits d) →
         count′ ≡ count + length (stepRecords (clock + 1) i x d) → stage′ ≡ writeAt stage (count * recordWidth) (logBytes (stepRecords (clock + 1) i x d)) →
         m′ ≡ m + length (reachedBy d) → take m′ reached′ ≡ take m reached ++ reachedBy d → length reached′ ≡ length reached →
-        stirred′ ≡ (stirred || stirring d (u .mode)) →
-        Turning b ts clock word calm stage′ reached′ (set next i u) (cleared rest) (left - 1) count′ m′ stirred′
+        more′ ≡ (more || needsMore d (u .mode)) →
+        Turning b ts clock word skipped stage′ reached′ (set next i u) (cleared rest) (left - 1) count′ m′ more′
     unfolding Each
-    turning-step us p {x} {u} {d} {count′} {m′} {stage′} {reached′} {stirred′} ex ed eu ec es em er lr et =
+    turning-step us p {x} {u} {d} {count′} {m′} {stage′} {reached′} {more′} ex ed eu ec es em er lr et =
         record {
-          steps = subst (λ (ns : List Track). Stepping b (leapTracks calm (b .present) ts) clock word stage′ reached′ ns (cleared rest) (left - 1) count′ m′) (put u)
-              (subst (λ (t : Track). d ≡ foundBy (keysOf (b .points)) (infosOf (b .points)) i t → u ≡ step t (waits d) → count′ ≡ count + length (stepRecords (clock + 1) i t d) → stage′ ≡ writeAt stage (count * recordWidth) (logBytes (stepRecords (clock + 1) i t d)) → Stepping b (leapTracks calm (b .present) ts) clock word stage′ reached′ (set (leapInto calm next (members rest) next) i u) (cleared rest) (left - 1) count′ m′)
+          steps = subst (λ (ns : List Track). Stepping b (leapTracks skipped (b .present) ts) clock word stage′ reached′ ns (cleared rest) (left - 1) count′ m′) (put u)
+              (subst (λ (t : Track). d ≡ foundBy (keysOf (b .points)) (infosOf (b .points)) i t → u ≡ step t (waits d) → count′ ≡ count + length (stepRecords (clock + 1) i t d) → stage′ ≡ writeAt stage (count * recordWidth) (logBytes (stepRecords (clock + 1) i t d)) → Stepping b (leapTracks skipped (b .present) ts) clock word stage′ reached′ (set (leapInto skipped next (members rest) next) i u) (cleared rest) (left - 1) count′ m′)
               (its-leap ∙ sym ex)
               (λ ed eu ec es. stepping-step _ _ _ _ _ _ _ _ _ _ _ (s .steps) h us p ed eu ec es em er lr) ed eu ec es);
           ready = each-set Ready next i u (members (cleared rest)) above (readies .1);
           long = length-set next i u ∙ s .long;
           same-word = λ e.
-              let n = stirs-not stirred d (u .mode) (sym et ∙ e) in
+              let n = needs-more-not more d (u .mode) (sym et ∙ e) in
               s .same-word (n .0) ∙ sym (word-set (b .present) next i u (n .2 ∙ sym (first .plays)));
           no-command = λ e.
-              let n = stirs-not stirred d (u .mode) (sym et ∙ e) in
+              let n = needs-more-not more d (u .mode) (sym et ∙ e) in
               subst (Each (λ d. commandOf d ≡ 0)) (sym er) (each-more (take m reached) d (n .1) (s .no-command (n .0)));
         }
 
@@ -233,22 +233,22 @@ pub record Ticked (b : Board) (ts : List Track) (clock : ℕ) (after : List Trac
   pub stage-long : length stage ≡ tickMost * recordWidth
   pub word-is : word ≡ playingWord (b .present) after
 
-module _ (b : Board) (ts : List Track) (clock word calm : ℕ) (ew : word ≡ playingWord (b .present) ts) (stage reached : List ℕ) (next : List Track)
-    (rest left count m : ℕ) (stirred : Bool) (s : Turning b ts clock word calm stage reached next rest left count m stirred) where
+module _ (b : Board) (ts : List Track) (clock word skipped : ℕ) (ew : word ≡ playingWord (b .present) ts) (stage reached : List ℕ) (next : List Track)
+    (rest left count m : ℕ) (more : Bool) (s : Turning b ts clock word skipped stage reached next rest left count m more) where
   abbrev leapt : List Track
-  leapt = leapTracks calm (b .present) ts
+  leapt = leapTracks skipped (b .present) ts
 
   same : word ≡ playingWord (b .present) leapt
-  same = ew ∙ sym (leap-tracks-word calm (b .present) ts)
+  same = ew ∙ sym (leap-tracks-word skipped (b .present) ts)
 
   -- records staged so far are part of the tick's
   pub turning-over : count ≤ length (tickFrom (keysOf (b .points)) (infosOf (b .points)) (clock + 1) (b .present) leapt .records)
   turning-over = stepping-over b leapt clock word same stage reached _ rest left count m (s .steps)
 
   module _ (h : left ≤ 0) where
-    over : leapInto calm next (members rest) next ≡ next
+    over : leapInto skipped next (members rest) next ≡ next
     unfolding leapInto
-    over = ap (λ (is : List ℕ). leapInto calm next is next) (none-left rest (s .steps .small) (omega (arith, s .steps .left-is)))
+    over = ap (λ (is : List ℕ). leapInto skipped next is next) (none-left rest (s .steps .small) (omega (arith, s .steps .left-is)))
 
     stepped : Stepping b leapt clock word stage reached next rest left count m
     stepped = subst (λ (us : List Track). Stepping b leapt clock word stage reached us rest left count m) over (s .steps)
@@ -258,21 +258,21 @@ module _ (b : Board) (ts : List Track) (clock word calm : ℕ) (ew : word ≡ pl
     turning-rule = stepped .rule
 
     -- a command to run, or a track that plays no more
-    pub turning-stirred : {after : List Track} {total : ℕ} {stage′ : List ℕ} {word′ : ℕ} → after ≡ tracksRun (clock + 1) (take m reached) next →
+    pub turning-more : {after : List Track} {total : ℕ} {stage′ : List ℕ} {word′ : ℕ} → after ≡ tracksRun (clock + 1) (take m reached) next →
         total ≡ count + length (recordsRun (clock + 1) (take m reached) next) →
         stage′ ≡ writeAt stage (count * recordWidth) (logBytes (recordsRun (clock + 1) (take m reached) next)) → word′ ≡ playingWord (b .present) after →
         Ticked b leapt clock after total stage′ word′
-    turning-stirred ea et es eq =
+    turning-more ea et es eq =
         let d = stepping-done b leapt clock word same stage reached next rest left count m stepped h ea et es in
         record { tracks = d .0; count = d .1; bytes = d .2; stage-long = d .3; word-is = eq }
 
     -- neither
-    pub turning-still : stirred ≡ false → {after : List Track} {total : ℕ} {stage′ : List ℕ} {word′ : ℕ} → after ≡ next → total ≡ count → stage′ ≡ stage →
+    pub turning-still : more ≡ false → {after : List Track} {total : ℕ} {stage′ : List ℕ} {word′ : ℕ} → after ≡ next → total ≡ count → stage′ ≡ stage →
         word′ ≡ word → Ticked b leapt clock after total stage′ word′
     unfolding logBytes
     turning-still e ea et es eq =
         let none = run-none (clock + 1) (take m reached) (staged next [] []) (s .no-command e) in
-        turning-stirred (ea ∙ sym (ap (λ (x : Stage). x .tracks) none))
+        turning-more (ea ∙ sym (ap (λ (x : Stage). x .tracks) none))
         (et ∙ sym (add-zero count) ∙ ap (λ (x : Stage). count + length (x .records)) (sym none))
         (es ∙ sym (write-none stage (count * recordWidth)) ∙ ap (λ (x : Stage). writeAt stage (count * recordWidth) (logBytes (x .records))) (sym none))
         (eq ∙ s .same-word e ∙ ap (playingWord (b .present)) (sym ea))

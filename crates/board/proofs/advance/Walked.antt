@@ -16,7 +16,7 @@ use Rattle.board.specs.Board.{noTrack, trackAt}
 use Rattle.board.specs.Tick.{keep, members}
 use Rattle.board.specs.Tick.{pointRecords, playBit, playingWord, Stage, staged, foundBy, stepRecords, reachedBy, stepMember, stepAll, obeyed, runCommand, runAll, tickFrom}
 use Rattle.board.specs.Points.{waits, targetOf, trackCount}
-use Rattle.board.specs.Quiet.{Some, Telling, Fewest, Leapable, whereSet, leapTracks}
+use Rattle.board.specs.Quiet.{Some, NonzeroInfos, Fewest, Leapable, whereSet, leapTracks}
 use Rattle.board.proofs.points.Keys.{lt-or-ge}
 use Rattle.board.proofs.tick.PlayingLaws.{bit-small}
 use Rattle.board.proofs.quiet.Players.{SomePlaying, players, members-playing, longer, some-playing}
@@ -245,10 +245,10 @@ module _ (ks ds : List ℕ) (clock present : ℕ) (ts : List Track) (l : length 
 
 -- after all quiet ticks, the next writes a record or leaves fewer playing
 pub walked-tick : (ks ds : List ℕ) (clock present : ℕ) (ts : List Track) → length ts ≡ trackCount → Leapable ts (members (playingWord present ts))
-    → Telling ks ds → (a r : ℕ) → Fewest ks ts (members (playingWord present ts)) a r → r < a
+    → NonzeroInfos ks ds → (a r : ℕ) → Fewest ks ts (members (playingWord present ts)) a r → r < a
     → (0 < length (tickFrom ks ds clock present (leapTracks r present ts) .records))
     ⊎ (length (members (playingWord present (tickFrom ks ds clock present (leapTracks r present ts) .tracks))) < length (members (playingWord present ts)))
-walked-tick ks ds clock present ts l able tell a r f p =
+walked-tick ks ds clock present ts l leapable tell a r f p =
     let us = leapTracks r present ts in
     let lu = leap-tracks-long r present ts ∙ l in
     let e = leap-tracks-word r present ts in
@@ -258,4 +258,4 @@ walked-tick ks ds clock present ts l able tell a r f p =
     (λ (w : length (tickFrom ks ds clock present us .records) ≤ 0).
     inr (rw e at (tick-fewer ks ds clock present us lu w (rw e s))))
     (lt-or-ge 0 (length (tickFrom ks ds clock present us .records))))
-    (maximal ks ds present ts l able tell clock a r f p)
+    (maximal ks ds present ts l leapable tell clock a r f p)

@@ -14,7 +14,7 @@ use Rattle.board.specs.declared.call.Call.the-variants as call
 use Rattle.board.specs.Setup.{setUp, addTrack, setPoint, dropPoint, clearBoard}
 use Rattle.board.specs.Query.{clockOf, trackOf, pointIn, countIn}
 use Rattle.board.specs.Replay.{wrote}
-use Rattle.board.specs.Call.{Reply, answered, clockSaid, trackSaid, pointSaid, countSaid, madeOf, untouched, saysOf, makesOf, gridstep, countOf}
+use Rattle.board.specs.Call.{Reply, answered, clockSaid, trackSaid, pointSaid, countSaid, madeOf, untouched, saysOf, makesOf, gridstep, runCount}
 use Rattle.board.specs.Call.{world, Gives, Leaves}
 use Rattle.board.proofs.call.Machine.{counts}
 
@@ -34,37 +34,37 @@ module _ (b : Board) where
   query-gives said e log = record { answer-is = e; board-is = sym (counts .grown-zero b); log-is = refl }
 
   pub add-track-leaves : (i lo hi : ℤ) {r : Outcome} → r ≡ addTrack b i lo hi → Leaves (call.AddTrack i lo hi) b (answered (r .answer)) (r .board)
-  unfolding countOf saysOf makesOf
+  unfolding runCount saysOf makesOf
   add-track-leaves i lo hi h = outcome-gives (addTrack b i lo hi) h
 
   pub set-up-leaves : (i : ℤ) (c : Change) {r : Outcome} → r ≡ setUp b i c → Leaves (call.SetUp i c) b (answered (r .answer)) (r .board)
-  unfolding countOf saysOf makesOf
+  unfolding runCount saysOf makesOf
   set-up-leaves i c h = outcome-gives (setUp b i c) h
 
   pub set-point-leaves : (i p e w c g : ℤ) {r : Outcome} → r ≡ setPoint b i p e w c g → Leaves (call.SetPoint i p e w c g) b (answered (r .answer)) (r .board)
-  unfolding countOf saysOf makesOf
+  unfolding runCount saysOf makesOf
   set-point-leaves i p e w c g q = outcome-gives (setPoint b i p e w c g) q
 
   pub drop-point-leaves : (i p : ℤ) {r : Outcome} → r ≡ dropPoint b i p → Leaves (call.DropPoint i p) b (answered (r .answer)) (r .board)
-  unfolding countOf saysOf makesOf
+  unfolding runCount saysOf makesOf
   drop-point-leaves i p h = outcome-gives (dropPoint b i p) h
 
   pub clear-leaves : {r : Outcome} → r ≡ clearBoard b → Leaves call.Clear b (answered (r .answer)) (r .board)
-  unfolding countOf saysOf makesOf
+  unfolding runCount saysOf makesOf
   clear-leaves h = outcome-gives (clearBoard b) h
 
   pub clock-leaves : {r : ClockRead} → r ≡ clockOf b → Leaves call.Clock b (clockSaid r) b
-  unfolding countOf saysOf makesOf
+  unfolding runCount saysOf makesOf
   clock-leaves h = query-gives (clockSaid (clockOf b)) (ap clockSaid h)
 
   pub track-leaves : (i : ℤ) {r : TrackRead} → r ≡ trackOf b i → Leaves (call.Track i) b (trackSaid (r .answer) (r .track)) b
-  unfolding countOf saysOf makesOf
+  unfolding runCount saysOf makesOf
   track-leaves i h = query-gives (trackSaid (trackOf b i .answer) (trackOf b i .track)) (ap (λ (r : TrackRead). trackSaid (r .answer) (r .track)) h)
 
   pub point-leaves : (i p : ℤ) {r : PointRead} → r ≡ pointIn b i p → Leaves (call.Point i p) b (pointSaid r) b
-  unfolding countOf saysOf makesOf
+  unfolding runCount saysOf makesOf
   point-leaves i p h = query-gives (pointSaid (pointIn b i p)) (ap pointSaid h)
 
   pub point-count-leaves : (i from to : ℤ) {r : CountRead} → r ≡ countIn b i from to → Leaves (call.PointCount i from to) b (countSaid r) b
-  unfolding countOf saysOf makesOf
+  unfolding runCount saysOf makesOf
   point-count-leaves i from to h = query-gives (countSaid (countIn b i from to)) (ap countSaid h)

@@ -26,10 +26,10 @@ use Rattle.board.specs.declared.call.Call.the-variants as call
 use Rattle.board.specs.Board.{trackAt, isPresent, unbrokenTest, foundIn, Unbroken}
 use Rattle.board.specs.Setup.{boardWith, setUp, addTrack, setPoint, dropPoint, clearBoard}
 use Rattle.board.specs.Tick.{tickOf}
-use Rattle.board.specs.Mode.{Ruling, declined, callRecords, changing, changesTo, decided, modeRuling}
+use Rattle.board.specs.Mode.{ModeResult, declined, callRecords, changing, changesTo, decided, modeResult}
 use Rattle.board.specs.Cut.{ticks, Part, run, one}
 use Rattle.board.specs.Replay.{Made, World, flat, wrote, w-halt, w-bar, w-step, perform}
-use Rattle.board.specs.Call.{refused, answered, Stop, ends, fills, stoppedBy, Reason, stopped, refusedWith, takenIn, whyNot, ticked, grownBy, haltOf, barOf, madeOf, madeBy, saysOf, makesOf, isAccepted, clearsOf, gridstep, countOf, does, world, Gives}
+use Rattle.board.specs.Call.{refused, answered, Stop, ends, fills, stoppedBy, Reason, stopped, refusedWith, takenIn, whyNot, ticked, grownBy, haltOf, barOf, madeOf, madeBy, saysOf, makesOf, isAccepted, clearsOf, gridstep, runCount, does, world, Gives}
 use Rattle.board.proofs.log.Records.{length-record}
 use Rattle.board.proofs.rules.Broken.{unbroken-of, unbroken-is}
 use Rattle.board.proofs.setup.Ways.{by-natural, set-up-ways, add-track-ways, set-point-ways, drop-point-ways, clear-ways}
@@ -48,13 +48,13 @@ flat-is (r ∷ rs) = ap (λ (l : List ℕ). recordBytes r ++ l) (flat-is rs)
 
 -- ---- the mode calls
 
-module _ (b : Board) (n : ℕ) (P : Ruling → Type 0) (declines : (k : ℕ) → P (declined k b)) where
+module _ (b : Board) (n : ℕ) (P : ModeResult → Type 0) (declines : (k : ℕ) → P (declined k b)) where
   -- a mode call is refused, or takes a present track to a mode, with a record that fits
-  pub ruling-ways :
+  pub result-ways :
       ((i mode : ℕ) → isPresent (b .present) i ≡ true → mode ≤ WAITING → b .held + length (callRecords b i mode) ≤ capacity n → P (changing b i mode)) →
-      (track : ℤ) (call : ℕ) → P (modeRuling b n track call)
-  unfolding modeRuling decided changesTo
-  ruling-ways does track call =
+      (track : ℤ) (call : ℕ) → P (modeResult b n track call)
+  unfolding modeResult decided changesTo
+  result-ways does track call =
       cond-cases P (unbrokenTest b)
       (λ _. cond-cases P (leb (b .held) (capacity n))
       (λ _. by-natural P (foundIn (b .present) track) _ (declined 1 b)
@@ -126,18 +126,18 @@ module _ (b : Board) where
   drop-point-held : (track position : ℤ) → Same (dropPoint b track position)
   drop-point-held track position = drop-point-ways b Same (λ k. refl) track position (λ k _. refl)
 
-  mode-held : (n : ℕ) (track : ℤ) (code : ℕ) → modeRuling b n track code .board .held ≡ b .held
-  mode-held n = ruling-ways b n (λ (m : Ruling). m .board .held ≡ b .held) (λ k. refl) (λ i mode _ _ _. refl)
+  mode-held : (n : ℕ) (track : ℤ) (code : ℕ) → modeResult b n track code .board .held ≡ b .held
+  mode-held n = result-ways b n (λ (m : ModeResult). m .board .held ≡ b .held) (λ k. refl) (λ i mode _ _ _. refl)
 
   -- a clear that is accepted lets them go
   clear-held : Leaves gridstep (isAccepted (clearBoard b .answer)) b (madeOf (clearBoard b))
   clear-held = clear-ways b (λ (o : Outcome). Leaves gridstep (isAccepted (o .answer)) b (madeOf o)) (λ k. refl) (refl, refl)
 
   mode-fits : (n : ℕ) → recordWidth * b .held ≤ n → (track : ℤ) (code : ℕ) →
-      let m = modeRuling b n track code in
+      let m = modeResult b n track code in
       recordWidth * (m .board .held + length (m .records)) ≤ n
   mode-fits n h =
-      ruling-ways b n (λ (m : Ruling). recordWidth * (m .board .held + length (m .records)) ≤ n) (λ k. omega arith) (λ i mode _ _ fits. omega arith)
+      result-ways b n (λ (m : ModeResult). recordWidth * (m .board .held + length (m .records)) ≤ n) (λ k. omega arith) (λ i mode _ _ fits. omega arith)
 
 -- every call leaves them or, if it is a clear that is accepted, lets them go
 call-held : (c : Call) (n : ℕ) (b : Board) → Leaves gridstep (clearsOf c b) b (makesOf c n b)
@@ -219,11 +219,11 @@ read = record {
 module _ (b : Board) (w : Unbroken b) (held : ℕ) where
   -- no mode call breaks a board, whatever is held
   pub mode-whole : (n : ℕ) (track : ℤ) (code : ℕ) →
-      let c = modeRuling b n track code .board in
+      let c = modeResult b n track code .board in
       Unbroken (boardWith c (c .tracks) (c .present) (c .points) held)
   mode-whole n track code =
-      held-whole (modeRuling b n track code .board)
-      (ruling-ways b n (λ (m : Ruling). Unbroken (m .board)) (λ k. w)
+      held-whole (modeResult b n track code .board)
+      (result-ways b n (λ (m : ModeResult). Unbroken (m .board)) (λ k. w)
       (λ i mode h l _.
       let t = trackAt (b .tracks) i in
       let s = w .tracks i h in

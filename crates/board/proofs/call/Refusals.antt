@@ -16,14 +16,14 @@ use Rattle.board.specs.declared.call.Call.{Call}
 use Rattle.board.specs.declared.call.Call.the-variants as call
 use Rattle.board.specs.Board.{trackAt}
 use Rattle.board.specs.Setup.{boardWith}
-use Rattle.board.specs.Mode.{Ruling, modeRuling}
+use Rattle.board.specs.Mode.{ModeResult, modeResult}
 use Rattle.board.specs.Cut.{ticks, Part, run, one, part}
 use Rattle.board.specs.Replay.{World, wrote, w-halt, w-bar, w-step, perform}
-use Rattle.board.specs.Call.{refused, answered, Stop, ends, fills, stoppedBy, untouched, madeOf, madeBy, saysOf, makesOf, gridstep, most, countOf}
+use Rattle.board.specs.Call.{refused, answered, Stop, ends, fills, stoppedBy, untouched, madeOf, madeBy, saysOf, makesOf, gridstep, most, runCount}
 use Rattle.board.specs.Call.{advanceBy, does, world}
 use Rattle.board.proofs.setup.Ways.{changed-refused, set-up-ways, add-track-ways, set-point-ways, drop-point-ways, clear-ways}
 use Rattle.board.proofs.replay.Cuts.{advance-in, advance-out}
-use Rattle.board.proofs.call.Machine.{counts, ruling-ways}
+use Rattle.board.proofs.call.Machine.{counts, result-ways}
 
 -- a call that writes no record leaves the log
 pub silent : (b : Board) (w : World Board) → wrote gridstep (untouched b) w ≡ world b (w .log)
@@ -44,10 +44,10 @@ module _ (w : World Board) (k : ℕ) where
 
   -- so do the rulings of mode calls
   mode-equal : (track : ℤ) (code : ℕ) →
-      let m = modeRuling (w .board) (length (w .log)) track code in
+      let m = modeResult (w .board) (length (w .log)) track code in
       answered (m .answer) ≡ refused k → wrote gridstep (madeBy m) w ≡ w
   mode-equal =
-      ruling-ways (w .board) (length (w .log)) (λ (m : Ruling). answered (m .answer) ≡ refused k → wrote gridstep (madeBy m) w ≡ w)
+      result-ways (w .board) (length (w .log)) (λ (m : ModeResult). answered (m .answer) ≡ refused k → wrote gridstep (madeBy m) w ≡ w)
       (λ _ _. silent b w) (λ i mode _ _ _ e. cc)
 
   -- and all calls but the advances of a run
@@ -93,4 +93,4 @@ module _ (w : World Board) (k : ℕ) where
 
 -- a refused call leaves all equal: the board and every log byte
 pub refused-equal : (c : Call) (w : World Board) (n : ℕ) → does c w .answer ≡ refused n → does c w .left ≡ w
-refused-equal c w n = part-equal w n (part most countOf advanceBy c)
+refused-equal c w n = part-equal w n (part most runCount advanceBy c)

@@ -21,15 +21,15 @@ use Rattle.board.specs.declared.call.Call.the-variants as call
 use Rattle.board.specs.Board.{unbrokenTest, foundIn}
 use Rattle.board.specs.Setup.{setUp, addTrack, setPoint, dropPoint, clearBoard}
 use Rattle.board.specs.Query.{clockOf, trackOf, pointIn, countIn, noneRead}
-use Rattle.board.specs.Mode.{modeRuling}
+use Rattle.board.specs.Mode.{modeResult}
 use Rattle.board.specs.Replay.{World}
 use Rattle.board.specs.Call.{answered, clockSaid, trackSaid, pointSaid, countSaid, advancedSaid, Stop}
-use Rattle.board.specs.Call.{saysOf, countOf, does}
+use Rattle.board.specs.Call.{saysOf, runCount, does}
 use Rattle.board.specs.Row.{numbersOf}
 use Rattle.board.proofs.rules.Present.{found-in}
 use Rattle.board.proofs.rules.Broken.{unbroken-of}
 use Rattle.board.proofs.setup.Ways.{by-natural}
-use Rattle.board.proofs.row.Telling.{Told, replyIn, reply-back}
+use Rattle.board.proofs.row.Replies.{Told, replyIn, reply-back}
 use Rattle.board.proofs.lists.Replayed.{advance-said}
 
 said-told : (a : Answer) → Told (answered a)
@@ -67,15 +67,15 @@ track-told b i =
     P r = Told (trackSaid (r .answer) (r .track))
 
 told : (c : Call) (w : World Board) → Told (does c w .answer)
-unfolding countOf saysOf
+unfolding runCount saysOf
 told (call.AddTrack i lo hi) w = said-told (addTrack (w .board) i lo hi .answer)
 told (call.SetUp i c) w = said-told (setUp (w .board) i c .answer)
 told (call.SetPoint i p e f c g) w = said-told (setPoint (w .board) i p e f c g .answer)
 told (call.DropPoint i p) w = said-told (dropPoint (w .board) i p .answer)
-told (call.Play i) w = said-told (modeRuling (w .board) (length (w .log)) i PLAY .answer)
-told (call.Pause i) w = said-told (modeRuling (w .board) (length (w .log)) i PAUSE .answer)
-told (call.Resume i) w = said-told (modeRuling (w .board) (length (w .log)) i RESUME .answer)
-told (call.Stop i) w = said-told (modeRuling (w .board) (length (w .log)) i STOP .answer)
+told (call.Play i) w = said-told (modeResult (w .board) (length (w .log)) i PLAY .answer)
+told (call.Pause i) w = said-told (modeResult (w .board) (length (w .log)) i PAUSE .answer)
+told (call.Resume i) w = said-told (modeResult (w .board) (length (w .log)) i RESUME .answer)
+told (call.Stop i) w = said-told (modeResult (w .board) (length (w .log)) i STOP .answer)
 told (call.Advance n) w = subst Told (advance-said n w .is) (advance-told (advance-said n w .told))
 told call.Clear w = said-told (clearBoard (w .board) .answer)
 told call.Clock w = clock-told (clockOf (w .board))

@@ -17,11 +17,11 @@ use Rattle.board.specs.declared.call.Call.{Call}
 use Rattle.board.specs.declared.call.Call.the-variants as call
 use Rattle.board.specs.declared.points.Point.{Point}
 use Rattle.board.specs.declared.log.Record.{Record}
-use Rattle.board.specs.declared.setup.Drawn.the-variants as drawn
+use Rattle.board.specs.declared.setup.Described.the-variants as described
 use Rattle.board.specs.Log.{logBytes}
 use Rattle.board.specs.Points.{keysOf, keyOf, infoOf, hasKey, storedIn}
 use Rattle.board.specs.Board.{trackAt, freshBoard, foundIn, Unbroken}
-use Rattle.board.specs.Setup.{drawnFrom, setPoint, putPoints}
+use Rattle.board.specs.Setup.{describedBy, setPoint, putPoints}
 use Rattle.board.specs.Setup as outcome
 use Rattle.board.specs.Tick.{recordOf}
 use Rattle.board.specs.Cut.{All}
@@ -261,11 +261,11 @@ traps =
       started = refl;
     }
 
--- ---- L for any board: a call whose numbers draw the point p
+-- ---- L for any board: a call whose numbers describe the point p
 
 module _ (b : Board) (w : Unbroken b) (track position event wait command target : ℤ) (i : ℕ) (p : Point)
     (found : foundIn (b .present) track ≡ natural.In i) (free : settled (trackAt (b .tracks) i .mode) ≡ true)
-    (good : drawnFrom (b .present) i (trackAt (b .tracks) i) position event wait command target ≡ drawn.Good p) where
+    (good : describedBy (b .present) i (trackAt (b .tracks) i) position event wait command target ≡ described.Good p) where
   stores : setPoint b track position event wait command target ≡ putPoints b 5 (storedIn (b .points) (keyOf p) (infoOf p))
   unfolding setPoint
   stores = simp (unbroken-is b w, found, free, good)

@@ -7,14 +7,14 @@ use lib.IntN.{negsuc}
 use lib.ListN.{length}
 use Rattle.board.specs.declared.call.Call.{Call}
 use Rattle.board.specs.declared.call.Call.the-variants as call
-use Rattle.board.specs.Cut.{Recut, whole}
-use Rattle.board.specs.Call.{most, countOf, advanceBy}
+use Rattle.board.specs.Cut.{Recut, mergedList}
+use Rattle.board.specs.Call.{most, runCount, advanceBy}
 use Rattle.board.proofs.lists.Runs.{ran}
 use Rattle.board.proofs.lists.Cards.{track, point, play, pause, resume, advance}
 
 -- two lists that differ only in the cut
 abbrev pub Alike : List Call → List Call → Type 0
-Alike = Recut most countOf advanceBy
+Alike = Recut most runCount advanceBy
 
 -- calls with set-up and mode calls around them, and a run behind those
 abbrev pub amid : List Call → List Call
@@ -35,7 +35,7 @@ Parts c =
     × Alike (amid (advance 3 ∷ c ∷ advance 4 ∷ [])) (amid (advance 1 ∷ advance 2 ∷ c ∷ advance 0 ∷ advance 4 ∷ []))
 
 -- with each run written as one advance they are of one length
-as-long : {cs ds : List Call} → Alike cs ds → length (whole most countOf advanceBy cs) ≡ length (whole most countOf advanceBy ds)
+as-long : {cs ds : List Call} → Alike cs ds → length (mergedList most runCount advanceBy cs) ≡ length (mergedList most runCount advanceBy ds)
 as-long r = ap length (r .same)
 
 -- ---- the table

@@ -26,7 +26,7 @@ use Rattle.board.specs.Points.{ascendingFrom, key, keysOf, infosOf, trac
 use Rattle.board.specs.Board.{eventMost, noTrack, trackAt, isPresent, Unbroken}
 use Rattle.board.specs.Tick.{members, Stage, staged, pointRecords, changeRecords, foundBy, stepRecords, reachedBy}
 use Rattle.board.specs.Tick.{stepMember, stepAll, commandRecords, obeyed, obeyedRecords, runAll, playingWord, tickFrom, tickOf, InfoRule}
-use Rattle.board.specs.Mode.{Ruling, modeRuling}
+use Rattle.board.specs.Mode.{ModeResult, modeResult}
 use Rattle.board.specs.Replay.{Each}
 use Rattle.board.specs.Call.{makesOf, gridstep}
 use Rattle.board.specs.Lists.{cutUp, start, replayed}
@@ -35,10 +35,10 @@ use Rattle.board.proofs.points.Keys.{ascending-head, ascending-rest}
 use Rattle.board.proofs.rules.Broken.{present-small, unbroken-is}
 use Rattle.board.proofs.setup.Keeping.{fresh-whole}
 use Rattle.board.proofs.tick.Commands.{Goes?, grid-goes, obeyed-keeps, at-set, recordsRun, recordsIn, obeyedIn, run-apart, records-first}
-use Rattle.board.proofs.tick.Steps.{members-ascend, foundAt, steppedIn, writtenBy, stepsFrom, steps-apart, steps-at, Able, found-able, entered-sound, later-sound, step-sound}
+use Rattle.board.proofs.tick.Steps.{members-ascend, foundAt, steppedIn, writtenBy, stepsFrom, steps-apart, steps-at, Allowed, found-allowed, entered-sound, later-sound, step-sound}
 use Rattle.board.proofs.quiet.Players.{members-present}
 use Rattle.board.proofs.replay.Replays.{each-append, each-follows, list-keeps}
-use Rattle.board.proofs.call.Machine.{counts, ruling-ways, halt-none, tick-whole, made-whole}
+use Rattle.board.proofs.call.Machine.{counts, result-ways, halt-none, tick-whole, made-whole}
 use Rattle.board.proofs.advance.Advancing.{whole-points}
 
 -- A record whose every field is in its range: kinds 1 to 3, and a byte for event and detail.
@@ -147,8 +147,8 @@ module _ (b : Board) (w : Unbroken b) (below : b .clock .0 < clockEnd) where
   here = omega arith
 
   -- what a step finds
-  found : (i : ℕ) (t : Track) → Able (b .present) (foundBy ks ps i t)
-  found i t = found-able (b .present) (b .tracks) (key i (arrival t)) 0 ks ps (whole-points b (unbroken-is b w))
+  found : (i : ℕ) (t : Track) → Allowed (b .present) (foundBy ks ps i t)
+  found i t = found-allowed (b .present) (b .tracks) (key i (arrival t)) 0 ks ps (whole-points b (unbroken-is b w))
 
   -- a step of a present track
   step-ranged : (i : ℕ) → isPresent (b .present) i ≡ true → Each Ranged (writtenBy ks ps clock i (b .tracks))
@@ -169,7 +169,7 @@ module _ (b : Board) (w : Unbroken b) (below : b .clock .0 < clockEnd) where
   -- as long as the tracks from lo on are as they were, the steps of members from lo on
   steps-ranged : (lo : ℕ) (is : List ℕ) (ts : List Track) → ascendingFrom lo is ≡ true → ((j : ℕ) → lo ≤ j → trackAt ts j ≡ trackAt (b .tracks) j)
       → Each (λ i. (trackAt (b .tracks) i .mode ≡ PLAYING) × (isPresent (b .present) i ≡ true)) is
-      → Each Ranged (stepsFrom ks ps clock is ts .records) × Each (Able (b .present)) (stepsFrom ks ps clock is ts .reached)
+      → Each Ranged (stepsFrom ks ps clock is ts .records) × Each (Allowed (b .present)) (stepsFrom ks ps clock is ts .reached)
   unfolding stepAll stepMember Each
   steps-ranged lo [] ts a same p = (tt, tt)
   steps-ranged lo (i ∷ is) ts a same p =
@@ -181,14 +181,14 @@ module _ (b : Board) (w : Unbroken b) (below : b .clock .0 < clockEnd) where
       let rest = steps-ranged (suc i) is us (ascending-rest lo i is a)
       (λ j h. getD-set-other ts i j _ noTrack (λ q. absurd (omega arith)) ∙ same j (omega arith)) (p .1) in
       let first : Each Ranged os = subst (λ (t : Track). Each Ranged (stepRecords clock i t (foundBy ks ps i t))) (sym e) (step-ranged i (p .0 .1)) in
-      subst (λ (s : Stage). Each Ranged (s .records) × Each (Able (b .present)) (s .reached)) (sym (steps-apart ks ps clock is us os (reachedBy d))) (
+      subst (λ (s : Stage). Each Ranged (s .records) × Each (Allowed (b .present)) (s .reached)) (sym (steps-apart ks ps clock is us os (reachedBy d))) (
         each-append Ranged os (stepsFrom ks ps clock is us .records) first (rest .0),
-        each-append (Able (b .present)) (reachedBy d) (stepsFrom ks ps clock is us .reached)
-            (cond-cases (Each (Able (b .present))) (eqb d 0) (λ _. tt) (λ _. (found i (trackAt ts i), tt))) (rest .1),
+        each-append (Allowed (b .present)) (reachedBy d) (stepsFrom ks ps clock is us .reached)
+            (cond-cases (Each (Allowed (b .present))) (eqb d 0) (λ _. tt) (λ _. (found i (trackAt ts i), tt))) (rest .1),
       )
 
   -- the commands, on tracks that are sound at the clock after the tick
-  commands-ranged : (ds : List ℕ) (ts : List Track) → Each (Able (b .present)) ds → ((i : ℕ) → isPresent (b .present) i ≡ true → Sound (trackAt ts i) after)
+  commands-ranged : (ds : List ℕ) (ts : List Track) → Each (Allowed (b .present)) ds → ((i : ℕ) → isPresent (b .present) i ≡ true → Sound (trackAt ts i) after)
       → Each Ranged (recordsRun clock ds ts)
   unfolding runAll Each
   commands-ranged [] ts a sound = tt
@@ -221,10 +221,10 @@ module _ (b : Board) (w : Unbroken b) (below : b .clock .0 < clockEnd) where
 
 module _ (n : ℕ) (b : Board) (w : Unbroken b) where
   -- a mode call's record
-  mode-ranged : (track : ℤ) (code : ℕ) → Each Ranged (modeRuling b n track code .records)
+  mode-ranged : (track : ℤ) (code : ℕ) → Each Ranged (modeResult b n track code .records)
   unfolding Each
   mode-ranged =
-      ruling-ways b n (λ (m : Ruling). Each Ranged (m .records)) (λ k. tt)
+      result-ways b n (λ (m : ModeResult). Each Ranged (m .records)) (λ k. tt)
       (λ i mode h l _.
       let t = trackAt (b .tracks) i in
       let s = w .tracks i h in

@@ -25,15 +25,15 @@ use Rattle.board.specs.declared.call.Call.the-variants as call
 use Rattle.board.specs.Board.{freshBoard, Unbroken}
 use Rattle.board.specs.Setup.{setUp, addTrack, setPoint, dropPoint, clearBoard}
 use Rattle.board.specs.Query.{clockOf, trackOf, pointIn, countIn}
-use Rattle.board.specs.Mode.{modeRuling}
+use Rattle.board.specs.Mode.{modeResult}
 use Rattle.board.specs.Cut.{Ran, ticks, Did, All, run, sorted, part, performs, Recut, observe}
 use Rattle.board.specs.Replay.{World, State, perform, w-bar, w-halt, w-step, replay, r-bar, r-halt, r-step, written, writtens, flat}
 use Rattle.board.specs.Replay.{shown, only, gathered, ticked, total}
 use Rattle.board.specs.Call.{Reply, refused, answered, clockSaid, trackSaid, pointSaid, countSaid, advancedSaid, Stop, ends, fills, stoppedBy}
-use Rattle.board.specs.Call.{takenIn, whyNot, barOf, barred, saysOf, makesOf, gridstep, most, countOf, advanceBy, does}
+use Rattle.board.specs.Call.{takenIn, whyNot, barOf, barred, saysOf, makesOf, gridstep, most, runCount, advanceBy, does}
 use Rattle.board.specs.Call.{world, Gives}
 use Rattle.board.specs.Lists.{cutUp, start, replayed}
-use Rattle.board.specs.Arrivals.{arrivalsIn, noteOf, notesIn, isPoint}
+use Rattle.board.specs.Arrivals.{arrivalsIn, arrivalRecord, arrivalRecords, isPoint}
 use Rattle.board.proofs.replay.Cuts.{recut, cut, advance-add, advance-in, advance-out}
 use Rattle.board.proofs.replay.Replays.{shown-takes, w-kept, agrees, rows, kinds, cuts, gathered-length, total-same}
 use Rattle.board.proofs.call.Machine.{counts, room, kept, read, call-whole}
@@ -156,18 +156,18 @@ trace-written (then {c = c} {w = w} s t) = rw (step-is c w s, trace-written t)
 
 -- ---- the cut
 
-count-advance : (n : ℕ) → n ≤ most → countOf (advanceBy n) ≡ some n
-unfolding countOf
+count-advance : (n : ℕ) → n ≤ most → runCount (advanceBy n) ≡ some n
+unfolding runCount
 count-advance n h = rw (natural-of n 0 most zero-le h)
 
 -- two lists that differ only in the cut, from one board and log: of each run the ticks taken and what first stopped it, of any
 -- other call its answer, and the end board and log are equal
-recuts : {cs ds : List Call} {w u v : World Board} {xs ys : List Reply} → Recut most countOf advanceBy cs ds
+recuts : {cs ds : List Call} {w u v : World Board} {xs ys : List Reply} → Recut most runCount advanceBy cs ds
     → Trace cs w xs u → Trace ds w ys v
     → (observe takenIn whyNot (cutUp cs) xs ≡ observe takenIn whyNot (cutUp ds) ys) × (u ≡ v)
 unfolding read
 recuts {cs} {ds} {w} r s t =
-    let c = cuts gridstep read kept (cutUp cs) (cutUp ds) w (recut most countOf advanceBy count-advance cs ds r) in
+    let c = cuts gridstep read kept (cutUp cs) (cutUp ds) w (recut most runCount advanceBy count-advance cs ds r) in
     (rw (trace-is s, trace-is t) at (c .0), rw (trace-is s, trace-is t) at (c .1))
 
 -- the replay's bar, after a tick that it takes
@@ -176,13 +176,13 @@ r-kept s h e =
     ap (w-bar gridstep) (sym (shown-takes gridstep counts (gridstep .tick (s .board)) s)) ∙ w-kept gridstep read kept (shown gridstep s) h e
 
 -- they have one replay, its row included, but for the answers within a run
-replays-recut : {cs ds : List Call} (log : List ℕ) → Recut most countOf advanceBy cs ds
+replays-recut : {cs ds : List Call} (log : List ℕ) → Recut most runCount advanceBy cs ds
     → (observe takenIn whyNot (cutUp cs) (replayed cs log .answers) ≡ observe takenIn whyNot (cutUp ds) (replayed ds log .answers))
     × (replayed cs log .last ≡ replayed ds log .last)
 unfolding read
 replays-recut {cs} {ds} log r =
     cut (replay gridstep) takenIn whyNot (advance-add (r-halt gridstep) (r-step gridstep) (r-bar gridstep) stoppedBy refused r-kept read)
-    (cutUp cs) (cutUp ds) (start log) (recut most countOf advanceBy count-advance cs ds r)
+    (cutUp cs) (cutUp ds) (start log) (recut most runCount advanceBy count-advance cs ds r)
 
 -- ---- the theorem
 
@@ -195,21 +195,21 @@ pub record Demand3 {cs : List Call} {log : List ℕ} {xs : List Reply} {u : Worl
   -- (b) the records that the calls write, call after call, are the row
   pub row-is : allWritten t ≡ flat gridstep (replayed cs log .last .row)
   -- (c) the row's records of kind 1 are those of the arrivals in the ticks taken, one for each, and no more
-  pub points-are : only isPoint (replayed cs log .last .row) ≡ gathered gridstep notesIn (ticked gridstep (cutUp cs) (start log))
+  pub points-are : only isPoint (replayed cs log .last .row) ≡ gathered gridstep arrivalRecords (ticked gridstep (cutUp cs) (start log))
   pub points-count : length (only isPoint (replayed cs log .last .row)) ≡ total (λ b. length (arrivalsIn b)) (ticked gridstep (cutUp cs) (start log))
   -- (d) a list that differs only in the cut, on a log equal at the start: of each run the ticks taken and what first stopped it,
   -- of any other call its answer, and the end board and log are equal
-  pub recut-alike : {ds : List Call} {ys : List Reply} {v : World Board} → Recut most countOf advanceBy cs ds
+  pub recut-alike : {ds : List Call} {ys : List Reply} {v : World Board} → Recut most runCount advanceBy cs ds
       → Trace ds (world freshBoard log) ys v
       → (observe takenIn whyNot (cutUp cs) xs ≡ observe takenIn whyNot (cutUp ds) ys) × (u ≡ v)
   -- and so are the rows
-  pub recut-row : {ds : List Call} → Recut most countOf advanceBy cs ds → replayed cs log .last .row ≡ replayed ds log .last .row
+  pub recut-row : {ds : List Call} → Recut most runCount advanceBy cs ds → replayed cs log .last .row ≡ replayed ds log .last .row
 
 -- every list of calls from a fresh board, on any log
 pub demand-3 : {cs : List Call} {log : List ℕ} {xs : List Reply} {u : World Board} (t : Trace cs (world freshBoard log) xs u) → Demand3 t
 unfolding freshBoard
 demand-3 {cs} {log} t =
-    let p = kinds gridstep counts isPoint notesIn tick-points call-points (cutUp cs) (start log) in
+    let p = kinds gridstep counts isPoint arrivalRecords tick-points call-points (cutUp cs) (start log) in
     let e = sym (trace-is t) ∙ agrees gridstep counts (cutUp cs) (start log) in
     record {
       answers-are = ap (λ (x : All Reply (World Board)). x .answers) e;
@@ -218,8 +218,8 @@ demand-3 {cs} {log} t =
       row-is = sym (trace-written t) ∙ sym (rows gridstep counts room (cutUp cs) (start log) zero-le);
       points-are = p;
       points-count =
-          ap length p ∙ gathered-length gridstep notesIn (ticked gridstep (cutUp cs) (start log))
-          ∙ total-same (λ b. length (notesIn b)) (λ b. length (arrivalsIn b)) (λ b. length-map (arrivalsIn b) (noteOf b)) (ticked gridstep (cutUp cs) (start log));
+          ap length p ∙ gathered-length gridstep arrivalRecords (ticked gridstep (cutUp cs) (start log))
+          ∙ total-same (λ b. length (arrivalRecords b)) (λ b. length (arrivalsIn b)) (λ b. length-map (arrivalsIn b) (arrivalRecord b)) (ticked gridstep (cutUp cs) (start log));
       recut-alike = λ r s. recuts r t s;
       recut-row = λ r. ap (λ (s : State Board Record). s .row) (replays-recut log r .1);
     }
@@ -229,7 +229,7 @@ demand-3 {cs} {log} t =
 pub trace-whole : {cs : List Call} {w u : World Board} {xs : List Reply} → Trace cs w xs u → Unbroken (w .board) → Unbroken (u .board)
 trace-whole nothing h = h
 trace-whole (then {c = c} {w = w} s t) h =
-    trace-whole t (subst (λ (d : Did Reply (World Board)). Unbroken (d .left .board)) (step-is c w s) (call-whole (part most countOf advanceBy c) w h))
+    trace-whole t (subst (λ (d : Did Reply (World Board)). Unbroken (d .left .board)) (step-is c w s) (call-whole (part most runCount advanceBy c) w h))
 
 -- ---- the contracts can be met
 
@@ -266,7 +266,7 @@ refusal-said k = record { told = advanced.Refused k; is = refl }
 
 pub advance-said : (n : ℤ) (w : World Board) → Said (does (call.Advance n) w .answer)
 unfolding saysOf
-advance-said n w = go (countOf (call.Advance n))
+advance-said n w = go (runCount (call.Advance n))
   where
     went : ℕ → Ran Stop (World Board)
     went k = ticks (w-halt gridstep) (w-step gridstep) k w
@@ -279,20 +279,20 @@ advance-said n w = go (countOf (call.Advance n))
     bars none = refusal-said 3
     bars (some k) = refusal-said k
 
-    go : (o : Option ℕ) → Said (perform gridstep (sorted most countOf advanceBy (call.Advance n) o) w .answer)
+    go : (o : Option ℕ) → Said (perform gridstep (sorted most runCount advanceBy (call.Advance n) o) w .answer)
     go none = bars (barOf (length (w .log)) (w .board))
     go (some k) = runs k (w-bar gridstep w) refl
 
 step-met : (κs : Lfts 1) (c : Call) (w : World Board) → Step c w (does c w .answer) (does c w .left)
-unfolding countOf saysOf makesOf lends
+unfolding runCount saysOf makesOf lends
 step-met κs (call.AddTrack i lo hi) w = let l = add-track-leaves (w .board) i lo hi refl in (addTrack (w .board) i lo hi, l, gives-left (l (w .log)))
 step-met κs (call.SetUp i c) w = let l = set-up-leaves (w .board) i c refl in (setUp (w .board) i c, l, gives-left (l (w .log)))
 step-met κs (call.SetPoint i p e f c g) w = let l = set-point-leaves (w .board) i p e f c g refl in (setPoint (w .board) i p e f c g, l, gives-left (l (w .log)))
 step-met κs (call.DropPoint i p) w = let l = drop-point-leaves (w .board) i p refl in (dropPoint (w .board) i p, l, gives-left (l (w .log)))
-step-met κs (call.Play i) w = mode-met κs (call.Play i) w (modeRuling (w .board) (length (w .log)) i PLAY .answer) refl
-step-met κs (call.Pause i) w = mode-met κs (call.Pause i) w (modeRuling (w .board) (length (w .log)) i PAUSE .answer) refl
-step-met κs (call.Resume i) w = mode-met κs (call.Resume i) w (modeRuling (w .board) (length (w .log)) i RESUME .answer) refl
-step-met κs (call.Stop i) w = mode-met κs (call.Stop i) w (modeRuling (w .board) (length (w .log)) i STOP .answer) refl
+step-met κs (call.Play i) w = mode-met κs (call.Play i) w (modeResult (w .board) (length (w .log)) i PLAY .answer) refl
+step-met κs (call.Pause i) w = mode-met κs (call.Pause i) w (modeResult (w .board) (length (w .log)) i PAUSE .answer) refl
+step-met κs (call.Resume i) w = mode-met κs (call.Resume i) w (modeResult (w .board) (length (w .log)) i RESUME .answer) refl
+step-met κs (call.Stop i) w = mode-met κs (call.Stop i) w (modeResult (w .board) (length (w .log)) i STOP .answer) refl
 step-met κs (call.Advance n) w =
     let d = does (call.Advance n) w in
     let s = advance-said n w in

@@ -23,15 +23,15 @@ use Rattle.board.specs.Board.{trackAt, noTrack}
 use Rattle.board.specs.Tick.{members}
 use Rattle.board.specs.Tick.{Stage, pointRecords, changeRecords, foundBy, stepRecords, reachedBy, stepMember}
 use Rattle.board.specs.Tick.{stepAll, commandRecords, obeyedRecords, runAll, playingWord, tickFrom, tickOf}
-use Rattle.board.specs.Mode.{Ruling, modeRuling}
+use Rattle.board.specs.Mode.{ModeResult, modeResult}
 use Rattle.board.specs.Replay.{only}
 use Rattle.board.specs.Call.{makesOf}
-use Rattle.board.specs.Arrivals.{Arrival, arrivalAt, arrivalsOf, noteOf, notesIn, isPoint}
+use Rattle.board.specs.Arrivals.{Arrival, arrivalAt, arrivalsOf, arrivalRecord, arrivalRecords, isPoint}
 use Rattle.board.proofs.points.Keys.{ascending-head, ascending-rest}
 use Rattle.board.proofs.tick.Commands.{recordsRun, recordsIn, obeyedIn, run-apart, records-first}
 use Rattle.board.proofs.tick.Steps.{members-ascend, foundAt, steppedIn, writtenBy, stepsFrom, steps-apart}
 use Rattle.board.proofs.replay.Replays.{only-append}
-use Rattle.board.proofs.call.Machine.{ruling-ways}
+use Rattle.board.proofs.call.Machine.{result-ways}
 
 -- ---- records of another kind
 
@@ -71,7 +71,7 @@ module _ (b : Board) where
   clock = b .clock .0 + 1
 
   -- a step's records of kind 1 are those of its arrival
-  step-points : (i : ℕ) → only isPoint (writtenBy ks ps clock i (b .tracks)) ≡ map (noteOf b) (arrivalAt b i (arrival (trackAt (b .tracks) i)))
+  step-points : (i : ℕ) → only isPoint (writtenBy ks ps clock i (b .tracks)) ≡ map (arrivalRecord b) (arrivalAt b i (arrival (trackAt (b .tracks) i)))
   unfolding stepRecords pointRecords arrivalAt
   step-points i =
       let t = trackAt (b .tracks) i in
@@ -87,13 +87,13 @@ module _ (b : Board) where
       a : Arrival
       a = record { track = i; location = arrival (trackAt (b .tracks) i); info = foundAt ks ps clock i (b .tracks) }
 
-      go : (z : Bool) → only isPoint (cond z [] (noteOf b a ∷ [])) ≡ map (noteOf b) (cond z [] (a ∷ []))
+      go : (z : Bool) → only isPoint (cond z [] (arrivalRecord b a ∷ [])) ≡ map (arrivalRecord b) (cond z [] (a ∷ []))
       go true = refl
       go false = refl
 
   -- as long as the tracks from lo on are as they were, so are the reports of members from lo on
   steps-points : (lo : ℕ) (is : List ℕ) (ts : List Track) → ascendingFrom lo is ≡ true → ((j : ℕ) → lo ≤ j → trackAt ts j ≡ trackAt (b .tracks) j) →
-      only isPoint (stepsFrom ks ps clock is ts .records) ≡ map (noteOf b) (arrivalsOf b is)
+      only isPoint (stepsFrom ks ps clock is ts .records) ≡ map (arrivalRecord b) (arrivalsOf b is)
   unfolding stepAll stepMember arrivalsOf
   steps-points lo [] ts a same = refl
   steps-points lo (i ∷ is) ts a same =
@@ -105,12 +105,12 @@ module _ (b : Board) where
       ap (λ (s : Stage). only isPoint (s .records)) (steps-apart ks ps clock is us os (reachedBy (foundAt ks ps clock i ts)))
       ∙ only-append isPoint os (stepsFrom ks ps clock is us .records)
       ∙ (λ j. (ap (λ (t : Track). only isPoint (stepRecords clock i t (foundBy ks ps i t))) e ∙ step-points i) j ++ rest j)
-      ∙ sym (map-append (noteOf b) (arrivalAt b i (arrival (trackAt (b .tracks) i))) (arrivalsOf b is))
+      ∙ sym (map-append (arrivalRecord b) (arrivalAt b i (arrival (trackAt (b .tracks) i))) (arrivalsOf b is))
 
 -- ---- the laws
 
 -- a tick's records of kind 1 are one for each arrival
-pub tick-points : (b : Board) → only isPoint (tickOf b .records) ≡ notesIn b
+pub tick-points : (b : Board) → only isPoint (tickOf b .records) ≡ arrivalRecords b
 unfolding tickFrom
 tick-points b =
     let word = playingWord (b .present) (b .tracks) in
@@ -121,9 +121,9 @@ tick-points b =
     ∙ append-nil (only isPoint (s .records))
     ∙ steps-points b 0 (members word) (b .tracks) (members-ascend trackCount 0 word) (λ j _. refl)
 
-mode-none : (b : Board) (n : ℕ) (track : ℤ) (code : ℕ) → only isPoint (modeRuling b n track code .records) ≡ []
+mode-none : (b : Board) (n : ℕ) (track : ℤ) (code : ℕ) → only isPoint (modeResult b n track code .records) ≡ []
 mode-none b n =
-    ruling-ways b n (λ (m : Ruling). only isPoint (m .records) ≡ []) (λ k. refl)
+    result-ways b n (λ (m : ModeResult). only isPoint (m .records) ≡ []) (λ k. refl)
     (λ i mode _ _ _. let t = trackAt (b .tracks) i in change-none (b .clock .0) i t mode (t .position .0) (t .passes .0))
 
 -- no call but an advance writes one

@@ -24,15 +24,15 @@ use Rattle.board.specs.declared.call.Call.the-variants as call
 use Rattle.board.specs.Board.{freshBoard}
 use Rattle.board.specs.Setup.{setUp, addTrack, setPoint, dropPoint, clearBoard}
 use Rattle.board.specs.Query.{clockOf, trackOf, pointIn, countIn}
-use Rattle.board.specs.Mode.{Ruling, modeRuling}
+use Rattle.board.specs.Mode.{ModeResult, modeResult}
 use Rattle.board.specs.Cut.{Ran, ticks, Part, run, one, part, performs}
 use Rattle.board.specs.Replay.{World, w-halt, w-bar, w-step, perform, total}
 use Rattle.board.specs.Call.{Reply, refused, answered, clockSaid, trackSaid, pointSaid, countSaid, Stop, stoppedBy, takenIn, barOf, barred, saysOf}
-use Rattle.board.specs.Call.{makesOf, gridstep, most, countOf, advanceBy, does, world}
+use Rattle.board.specs.Call.{makesOf, gridstep, most, runCount, advanceBy, does, world}
 use Rattle.board.specs.Lists.{cutUp}
 use Rattle.board.proofs.setup.Ways.{set-up-ways, add-track-ways, set-point-ways, drop-point-ways, clear-ways}
 use Rattle.board.proofs.replay.Cuts.{ticks-on, ticks-off, advance-in, advance-out}
-use Rattle.board.proofs.call.Machine.{ruling-ways, read}
+use Rattle.board.proofs.call.Machine.{result-ways, read}
 use Rattle.board.proofs.lists.Replayed.{Trace, trace-is}
 
 -- ---- a call that is no advance takes no tick, and leaves the clock
@@ -71,10 +71,10 @@ no-ticks (call.AddTrack i lo hi) n b = taken-answered (addTrack b i lo hi .answe
 no-ticks (call.SetUp i c) n b = taken-answered (setUp b i c .answer)
 no-ticks (call.SetPoint i p e w c g) n b = taken-answered (setPoint b i p e w c g .answer)
 no-ticks (call.DropPoint i p) n b = taken-answered (dropPoint b i p .answer)
-no-ticks (call.Play i) n b = taken-answered (modeRuling b n i PLAY .answer)
-no-ticks (call.Pause i) n b = taken-answered (modeRuling b n i PAUSE .answer)
-no-ticks (call.Resume i) n b = taken-answered (modeRuling b n i RESUME .answer)
-no-ticks (call.Stop i) n b = taken-answered (modeRuling b n i STOP .answer)
+no-ticks (call.Play i) n b = taken-answered (modeResult b n i PLAY .answer)
+no-ticks (call.Pause i) n b = taken-answered (modeResult b n i PAUSE .answer)
+no-ticks (call.Resume i) n b = taken-answered (modeResult b n i RESUME .answer)
+no-ticks (call.Stop i) n b = taken-answered (modeResult b n i STOP .answer)
 no-ticks (call.Advance k) n b = taken-barred (barOf n b)
 no-ticks call.Clear n b = taken-answered (clearBoard b .answer)
 no-ticks call.Clock n b = taken-clock (clockOf b)
@@ -88,8 +88,8 @@ module _ (n : ℕ) (b : Board) where
   Same o = o .board .clock .0 ≡ b .clock .0
 
   -- a mode call leaves it
-  mode-clock : (track : ℤ) (code : ℕ) → modeRuling b n track code .board .clock .0 ≡ b .clock .0
-  mode-clock = ruling-ways b n (λ (m : Ruling). m .board .clock .0 ≡ b .clock .0) (λ k. refl) (λ i mode _ _ _. refl)
+  mode-clock : (track : ℤ) (code : ℕ) → modeResult b n track code .board .clock .0 ≡ b .clock .0
+  mode-clock = result-ways b n (λ (m : ModeResult). m .board .clock .0 ≡ b .clock .0) (λ k. refl) (λ i mode _ _ _. refl)
 
   -- and so does every other
   same-clock : (c : Call) → makesOf c n b .board .clock .0 ≡ b .clock .0
@@ -148,7 +148,7 @@ part-clock (run n) w = go (w-bar gridstep w) refl
 pub taken-growth : (c : Call) (w : World Board) →
     let d = does c w in
     (w .board .clock .0 ≤ d .left .board .clock .0) × (takenIn (d .answer) ≡ d .left .board .clock .0 - w .board .clock .0)
-taken-growth c w = let e = part-clock (part most countOf advanceBy c) w in (omega arith, omega arith)
+taken-growth c w = let e = part-clock (part most runCount advanceBy c) w in (omega arith, omega arith)
 
 -- the clock after a list of calls
 list-clock : (ps : List (Part Call)) (w : World Board) →

@@ -35,7 +35,7 @@ use Rattle.board.proofs.rules.Present.{found-in}
 use Rattle.board.proofs.setup.Keeping.{present-added, present-others}
 use Rattle.board.proofs.setup.Ways.{by-natural, add-track-ways, set-point-ways, drop-point-ways, clear-ways}
 use Rattle.board.proofs.tick.Commands.{at-set}
-use Rattle.board.specs.Mode.{Ruling, declined, callRecords, changing, changesTo, decided, modeRuling}
+use Rattle.board.specs.Mode.{ModeResult, declined, callRecords, changing, changesTo, decided, modeResult}
 use Rattle.board.specs.Log.{capacity}
 use Rattle.board.specs.declared.call.Call.{Call}
 use Rattle.board.specs.declared.call.Call.the-variants as call
@@ -60,11 +60,11 @@ found-number present track {j} = go (naturalOf track 0 15)
     go natural.Outside e = e
 
 -- a mode call is refused, or takes the present track of its number where the grid says
-pub ruling-cases : (b : Board) (n : ℕ) (track : ℤ) (c : ℕ) (P : Ruling → Type 0) → ((k : ℕ) → P (declined k b)) →
+pub result-cases : (b : Board) (n : ℕ) (track : ℤ) (c : ℕ) (P : ModeResult → Type 0) → ((k : ℕ) → P (declined k b)) →
     ((j mode : ℕ) → naturalOf track 0 15 ≡ natural.In j → isPresent (b .present) j ≡ true
-    → gridOf (trackAt (b .tracks) j .mode) c ≡ decision.Goes mode → P (changing b j mode)) → P (modeRuling b n track c)
-unfolding modeRuling decided changesTo
-ruling-cases b n track c P declines does =
+    → gridOf (trackAt (b .tracks) j .mode) c ≡ decision.Goes mode → P (changing b j mode)) → P (modeResult b n track c)
+unfolding modeResult decided changesTo
+result-cases b n track c P declines does =
     cond-cases P (unbrokenTest b)
     (λ _. cond-cases P (leb (b .held) (capacity n))
     (λ _. by-natural P (foundIn (b .present) track) _ (declined 1 b)
@@ -187,12 +187,12 @@ module _ (b : Board) (whole : Unbroken b) (i : ℕ) where
   -- ---- mode calls
 
   mode-path : (n : ℕ) (track : ℤ) (c : ℕ) →
-      let m = modeRuling b n track c in
+      let m = modeResult b n track c in
       Path mode (cond (isNumber i track) (cond (isRefusal (answered (m .answer))) (exc ∷ []) (actOf c ∷ [])) []) (modeOf (m .board) i)
   unfolding Path
   mode-path n track c =
-      ruling-cases b n track c
-      (λ (m : Ruling). Path mode (cond (isNumber i track) (cond (isRefusal (answered (m .answer))) (exc ∷ []) (actOf c ∷ [])) []) (modeOf (m .board) i))
+      result-cases b n track c
+      (λ (m : ModeResult). Path mode (cond (isNumber i track) (cond (isRefusal (answered (m .answer))) (exc ∷ []) (actOf c ∷ [])) []) (modeOf (m .board) i))
       (λ _. refused-path (isNumber i track))
       (λ j m e h g.
       let t = trackAt (b .tracks) j in

@@ -19,17 +19,17 @@ use Rattle.track.proofs.Numbers.{natural-of}
 use Rattle.board.specs.declared.Board.{Board}
 use Rattle.board.specs.Board.{trackAt, noTrack, isPresent, foundIn, Unbroken}
 use Rattle.board.proofs.rules.Broken.{present-small, unbroken-is}
-use Rattle.board.specs.Mode.{Ruling, callRecords, changing, changesTo, decided, modeRuling}
+use Rattle.board.specs.Mode.{ModeResult, callRecords, changing, changesTo, decided, modeResult}
 use Rattle.board.specs.Log.{capacity}
 use Rattle.board.specs.declared.call.Call.{Call}
 use Rattle.board.specs.declared.call.Call.the-variants as call
 use Rattle.board.specs.Replay.{World, wrote}
-use Rattle.board.specs.Call.{refused, answered, madeBy, saysOf, makesOf, gridstep, countOf, does}
+use Rattle.board.specs.Call.{refused, answered, madeBy, saysOf, makesOf, gridstep, runCount, does}
 use Rattle.board.specs.premo.Automaton.{doRESUME, doSTOP, exc, offers}
 use Rattle.board.specs.premo.Acts.{modeOf, isNumber, isOn, deedOf, isRefusal, callActs, Brings}
 use Rattle.board.specs.premo.Published.{raises, Fits}
 use Rattle.board.proofs.call.Refusals.{silent}
-use Rattle.board.proofs.premo.Calls.{ruling-cases, present-mode}
+use Rattle.board.proofs.premo.Calls.{result-cases, present-mode}
 
 -- ---- mode calls on a present track
 
@@ -43,8 +43,8 @@ module _ (w : World Board) (whole : Unbroken (w .board)) (i : ℕ) (present : is
   abbrev t : Track
   t = trackAt (w .board .tracks) i
 
-  abbrev ruling : ℕ → Ruling
-  ruling c = modeRuling (w .board) (length (w .log)) (pos i) c
+  abbrev chosen : ℕ → ModeResult
+  chosen c = modeResult (w .board) (length (w .log)) (pos i) c
 
   number : naturalOf (pos i) 0 15 ≡ natural.In i
   number = natural-of i 0 15 zero-le (omega (arith, present-small (b .present) i present))
@@ -57,13 +57,13 @@ module _ (w : World Board) (whole : Unbroken (w .board)) (i : ℕ) (present : is
   found = rw (number, present)
 
   -- what the grid lets act is accepted, if its record fits
-  goes : (c m : ℕ) → gridOf (t .mode) c ≡ decision.Goes m → Fits i m w → ruling c ≡ changing b i m
-  unfolding modeRuling decided changesTo
+  goes : (c m : ℕ) → gridOf (t .mode) c ≡ decision.Goes m → Fits i m w → chosen c ≡ changing b i m
+  unfolding modeResult decided changesTo
   goes c m g fits = rw (unbroken-is b whole, le-leb (b .held) (capacity n) (omega arith), found, g, le-leb _ (capacity n) fits)
 
   -- and is not refused 2, whether it fits or not
-  not-2 : (c m : ℕ) → gridOf (t .mode) c ≡ decision.Goes m → answered (ruling c .answer) ≡ refused 2 → ⊥
-  unfolding modeRuling decided changesTo
+  not-2 : (c m : ℕ) → gridOf (t .mode) c ≡ decision.Goes m → answered (chosen c .answer) ≡ refused 2 → ⊥
+  unfolding modeResult decided changesTo
   not-2 c m g =
       rw (unbroken-is b whole, found, g)
       (cond-cases Not2 (leb (b .held) (capacity n))
@@ -71,19 +71,19 @@ module _ (w : World Board) (whole : Unbroken (w .board)) (i : ℕ) (present : is
       (λ _ e. let z : _≡_ {A = ℕ} 0 1 = cc in omega arith) (λ _ e. let z : _≡_ {A = ℕ} 8 2 = cc in omega arith))
       (λ _ e. let z : _≡_ {A = ℕ} 7 2 = cc in omega arith))
     where
-      Not2 : Ruling → Type 0
+      Not2 : ModeResult → Type 0
       Not2 r = answered (r .answer) ≡ refused 2 → ⊥
 
   -- what the grid does not let act is refused
   refuses : (c : ℕ) → gridOf (t .mode) c ≡ decision.Refused
-      → (isRefusal (answered (ruling c .answer)) ≡ true) × (wrote gridstep (madeBy (ruling c)) w ≡ w)
+      → (isRefusal (answered (chosen c .answer)) ≡ true) × (wrote gridstep (madeBy (chosen c)) w ≡ w)
   refuses c g =
-      ruling-cases b n (pos i) c (λ (m : Ruling). (isRefusal (answered (m .answer)) ≡ true) × (wrote gridstep (madeBy m) w ≡ w))
+      result-cases b n (pos i) c (λ (m : ModeResult). (isRefusal (answered (m .answer)) ≡ true) × (wrote gridstep (madeBy m) w ≡ w))
       (λ _. (refl, silent b w)) (λ j mode e _ h. absurd (let z : _≡_ {A = ℕ} 0 1 = cc number in omega arith))
 
   -- in every mode a mode call is refused, and leaves all equal
   pub raised : Brings i (raises i (modeOf b i)) exc w × (does (raises i (modeOf b i)) w .left ≡ w)
-  unfolding gridOf countOf callActs saysOf makesOf isOn deedOf
+  unfolding gridOf runCount callActs saysOf makesOf isOn deedOf
   raised =
       cond-cases (λ (c : Call). Brings i c exc w × (does c w .left ≡ w)) (eqb (modeOf b i) STOPPED)
       (λ e. let r = refuses RESUME (rw (present-mode b i present ∙ eqb-true (modeOf b i) STOPPED e)) in (rw (on, r .0), r .1))
@@ -92,7 +92,7 @@ module _ (w : World Board) (whole : Unbroken (w .board)) (i : ℕ) (present : is
   -- a resume acts where it is offered
   pub resumes : offers (t .mode) doRESUME ≡ true →
       (does (call.Resume (pos i)) w .answer ≡ refused 2 → ⊥) × (Fits i PLAYING w → Brings i (call.Resume (pos i)) doRESUME w)
-  unfolding gridOf offers countOf callActs saysOf isOn deedOf
+  unfolding gridOf offers runCount callActs saysOf isOn deedOf
   resumes o =
       let g : gridOf (t .mode) RESUME ≡ decision.Goes PLAYING = sym (cond-yes _ _ o refl) in
       (not-2 RESUME PLAYING g, λ fits. rw (on, goes RESUME PLAYING g fits))
@@ -101,7 +101,7 @@ module _ (w : World Board) (whole : Unbroken (w .board)) (i : ℕ) (present : is
   pub stops :
       (does (call.Stop (pos i)) w .answer ≡ refused 2 → ⊥)
       × (Fits i STOPPED w → Brings i (call.Stop (pos i)) doSTOP w × (trackAt (does (call.Stop (pos i)) w .left .board .tracks) i ≡ stopped t))
-  unfolding gridOf entered countOf callActs saysOf makesOf isOn deedOf
+  unfolding gridOf entered runCount callActs saysOf makesOf isOn deedOf
   stops =
       let valid = whole .tracks i present .valid in
       let g : gridOf (t .mode) STOP ≡ decision.Goes STOPPED = sym (cond-yes _ _ (le-leb (t .mode) WAITING (valid .mode)) refl) in

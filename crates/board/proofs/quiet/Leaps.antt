@@ -18,7 +18,7 @@ use Rattle.board.specs.declared.Board.{Board}
 use Rattle.board.specs.Points.{keysOf, infosOf, firstFrom, pointOf, trackCount}
 use Rattle.board.specs.Board.{noTrack, trackAt, isPresent, Unbroken}
 use Rattle.board.specs.Tick.{members, playBit, playingWord}
-use Rattle.board.specs.Quiet.{Telling, Able, Leapable, leapInto, whereSet, leapTracks}
+use Rattle.board.specs.Quiet.{NonzeroInfos, CanLeap, Leapable, leapInto, whereSet, leapTracks}
 use Rattle.board.proofs.rules.Broken.{present-bit, half-bit}
 use Rattle.board.proofs.points.Keys.{has-first}
 use Rattle.board.proofs.points.Table.{info-has}
@@ -131,18 +131,18 @@ add-list a b n present [] f = refl
 add-list a b n present (t ∷ ts) f =
     ap₂ (λ (x : Track) (xs : List Track). x ∷ xs) (head-add a b (present % 2) t (f .0)) (add-list a b (suc n) (present / 2) ts (f .1))
 
-module _ (present : ℕ) (ts : List Track) (l : length ts ≡ trackCount) (able : Leapable ts (members (playingWord present ts))) where
+module _ (present : ℕ) (ts : List Track) (l : length ts ≡ trackCount) (leapable : Leapable ts (members (playingWord present ts))) where
   -- playing tracks that can be leapt are valid
-  pub able-valid : EachPlaying (λ n t. Valid t) 0 present ts
-  able-valid = each-implies (λ n t. Able t) (λ n t. Valid t) (λ n t a. a .valid) 0 present ts (each-playing (λ n t. Able t) present ts l able)
+  pub leapable-valid : EachPlaying (λ n t. Valid t) 0 present ts
+  leapable-valid = each-implies (λ n t. CanLeap t) (λ n t. Valid t) (λ n t a. a .valid) 0 present ts (each-playing (λ n t. CanLeap t) present ts l leapable)
 
   -- no tick leapt is no change
   pub leap-tracks-zero : leapTracks 0 present ts ≡ ts
-  leap-tracks-zero = zero-list 0 present ts able-valid
+  leap-tracks-zero = zero-list 0 present ts leapable-valid
 
   -- two leaps are one
   pub leap-tracks-add : (a b : ℕ) → leapTracks b present (leapTracks a present ts) ≡ leapTracks (a + b) present ts
-  leap-tracks-add a b = add-list a b 0 present ts able-valid
+  leap-tracks-add a b = add-list a b 0 present ts leapable-valid
 
 -- ---- which tracks can be leapt
 
@@ -156,11 +156,11 @@ each-present P n present (t ∷ ts) f = (
 )
 
 -- the playing ones, where the present ones keep the rules
-pub sound-able : (present : ℕ) (ts : List Track) (clock : Ticks) → length ts ≡ trackCount → clock .0 ≤ clockEnd
+pub sound-leapable : (present : ℕ) (ts : List Track) (clock : Ticks) → length ts ≡ trackCount → clock .0 ≤ clockEnd
     → ((i : ℕ) → isPresent present i ≡ true → Sound (trackAt ts i) clock) → Leapable ts (members (playingWord present ts))
-sound-able present ts clock l c f =
-    each-member (λ n t. Able t) present ts l
-    (each-present Able 0 present ts
+sound-leapable present ts clock l c f =
+    each-member (λ n t. CanLeap t) present ts l
+    (each-present CanLeap 0 present ts
     (λ j m b.
     let e : present / 2 ^ j % 2 ≡ 1 = omega arith in
     let s = f j (sym (present-bit present j (omega arith)) ∙ eq-eqb (present / 2 ^ j % 2) 1 e) in
@@ -170,13 +170,13 @@ sound-able present ts clock l c f =
 
 module _ (b : Board) (u : Unbroken b) where
   -- its playing tracks can be leapt
-  pub unbroken-able : Leapable (b .tracks) (members (playingWord (b .present) (b .tracks)))
-  unbroken-able = sound-able (b .present) (b .tracks) (b .clock) (u .shape .tracks) (u .clock) (u .tracks)
+  pub unbroken-leapable : Leapable (b .tracks) (members (playingWord (b .present) (b .tracks)))
+  unbroken-leapable = sound-leapable (b .present) (b .tracks) (b .clock) (u .shape .tracks) (u .clock) (u .tracks)
 
   -- an event is at least 1, so that an info of 0 says that there is no point
-  pub unbroken-telling : Telling (keysOf (b .points)) (infosOf (b .points))
-  unfolding Telling pointOf
-  unbroken-telling k h z =
+  pub unbroken-infos : NonzeroInfos (keysOf (b .points)) (infosOf (b .points))
+  unfolding NonzeroInfos pointOf
+  unbroken-infos k h z =
       let n = b .points .count in
       let ks = keysOf (b .points) in
       let j = firstFrom ks k in

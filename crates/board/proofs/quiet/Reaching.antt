@@ -1,4 +1,4 @@
--- The steps of a track to the nearest of its points, and to its first loud step.
+-- The steps of a track to the nearest of its points, and to the first that ends the quiet.
 use Prim.Native.Nat.{ℕ, _+_, _-_, _%_, _≤_, _<_, min, zero-le}
 use mathlib.Core.Path.{_≡_, refl, sym, ap, _∙_}
 use mathlib.Core.Logic.{⊎-elim}
@@ -18,7 +18,7 @@ use Rattle.track.proofs.Leaps.{leap-arrival, leap-zero, leap-runs, leap-stops, 
 use Rattle.board.specs.declared.points.Near.{Near}
 use Rattle.board.specs.declared.points.Near.the-variants.{At, Nothing}
 use Rattle.board.specs.Points.{key, ascendingFrom, hasKey, infoAt, nearest}
-use Rattle.board.specs.Quiet.{Telling, reaches, loud, ToPoint, QuietSteps}
+use Rattle.board.specs.Quiet.{NonzeroInfos, reaches, endsQuiet, ToPoint, QuietSteps}
 use Rattle.board.proofs.points.Keys.{lt-or-ge}
 use Rattle.board.proofs.points.Table.{info-none}
 use Rattle.board.proofs.points.Ranges.{Nearest, nearest-is}
@@ -33,8 +33,8 @@ info-some k ks ds e n = go (hasKey k ks) refl
     go true h = refl
     go false h = absurd (n (e ∙ info-none k ks ds h))
 
-pub info-zero : (k : ℕ) (ks ds : List ℕ) → Telling ks ds → {d : ℕ} → d ≡ infoAt k ks ds → d ≡ 0 → hasKey k ks ≡ false
-unfolding Telling
+pub info-zero : (k : ℕ) (ks ds : List ℕ) → NonzeroInfos ks ds → {d : ℕ} → d ≡ infoAt k ks ds → d ≡ 0 → hasKey k ks ≡ false
+unfolding NonzeroInfos
 info-zero k ks ds tell e z = sym (refuted (hasKey k ks) (λ h. tell k h (sym e ∙ z)))
 
 -- the nearest point further on than the location p from home, counted from home
@@ -142,7 +142,7 @@ module _ (ks : List ℕ) (i : ℕ) (t : Track) (v : Valid t) where
 pub record Sought (ks ds : List ℕ) (t : Track) : Type 0 where
   pub valid : Valid t
   pub ascending : ascendingFrom 0 ks ≡ true
-  pub telling : Telling ks ds
+  pub telling : NonzeroInfos ks ds
 
 pub record Looked (ks ds : List ℕ) (i : ℕ) (t : Track) (l d : ℕ) (r : Near) : Type 0 where
   pub info : d ≡ infoAt (key i l) ks ds
@@ -274,26 +274,26 @@ module _ (ks : List ℕ) (i : ℕ) (t : Track) (v : Valid t) (s p : ℕ) (es : s
   runs : (j : ℕ) → j < s → stops (leap t j) ≡ false
   runs j l = leap-runs t v j (λ e. omega (arith, running-before t v e))
 
-  loud-stop : s < clockEnd → loud ks i (leap t s) ≡ true
-  unfolding loud
-  loud-stop h =
+  ends-quiet-stop : s < clockEnd → endsQuiet ks i (leap t s) ≡ true
+  unfolding endsQuiet
+  ends-quiet-stop h =
       let e = running-exact t v (omega arith) in
       rw (leap-stops t v s (e .0) (omega arith))
 
-  loud-point : p < clockEnd → loud ks i (leap t p) ≡ true
-  unfolding loud
-  loud-point h = rw (to .exact h) (or-true (stops (leap t p)))
+  ends-quiet-point : p < clockEnd → endsQuiet ks i (leap t p) ≡ true
+  unfolding endsQuiet
+  ends-quiet-point h = rw (to .exact h) (or-true (stops (leap t p)))
 
   -- the lesser of the two is the number of quiet steps
   pub sooner : {r : ℕ} → r ≡ min s p → QuietSteps ks i t r
-  unfolding loud
+  unfolding endsQuiet
   sooner {r} e =
       record {
         small = omega (arith, to .small);
         quiet = λ j l. rw (runs j (omega arith), to .none j (omega arith));
         exact =
             λ h. ⊎-elim
-            (λ (m : s < p). let q : r ≡ s = omega arith in rw q (loud-stop (omega (arith, to .small))))
-            (λ (m : p ≤ s). let q : r ≡ p = omega arith in rw q (loud-point (omega arith)))
+            (λ (m : s < p). let q : r ≡ s = omega arith in rw q (ends-quiet-stop (omega (arith, to .small))))
+            (λ (m : p ≤ s). let q : r ≡ p = omega arith in rw q (ends-quiet-point (omega arith)))
             (lt-or-ge s p);
       }

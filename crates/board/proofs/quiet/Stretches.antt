@@ -19,12 +19,12 @@ use Rattle.board.specs.Board.{noTrack, trackAt}
 use Rattle.board.specs.Tick.{keep, members}
 use Rattle.board.specs.Tick.{pointRecords, changeRecords, playBit, playingWord, Stage, staged, foundBy, stepRecords, reachedBy, stepMember, stepAll, runAll, tickFrom}
 use Rattle.board.specs.Replay.{Each}
-use Rattle.board.specs.Quiet.{Some, Telling, reaches, loud, Calm, Fewest, Leapable, leapTracks}
+use Rattle.board.specs.Quiet.{Some, NonzeroInfos, reaches, endsQuiet, QuietFor, Fewest, Leapable, leapTracks}
 use Rattle.board.proofs.points.Table.{info-none}
 use Rattle.board.proofs.tick.Commands.{run-more}
 use Rattle.board.proofs.tick.Steps.{steps-more}
 use Rattle.board.proofs.quiet.Players.{EachPlaying, SomePlaying, players, bit-plays, members-playing, longer, each-implies, each-both, each-playing, some-playing, some-member}
-use Rattle.board.proofs.quiet.Leaps.{leap-tracks-long, leap-tracks-word, leap-tracks-add, able-valid, each-leapt, some-leapt}
+use Rattle.board.proofs.quiet.Leaps.{leap-tracks-long, leap-tracks-word, leap-tracks-add, leapable-valid, each-leapt, some-leapt}
 
 -- ---- one track
 
@@ -62,9 +62,9 @@ module _ (ks ds : List ℕ) (clock : ℕ) where
   member-is i s e = ap (after i s) e
 
   -- a quiet step writes no record and reaches no point
-  after-quiet : (i : ℕ) (us : List Track) (t : Track) → Valid t → t .mode ≡ PLAYING → loud ks i t ≡ false
+  after-quiet : (i : ℕ) (us : List Track) (t : Track) → Valid t → t .mode ≡ PLAYING → endsQuiet ks i t ≡ false
       → after i (staged us [] []) t ≡ staged (set us i (leap t 1)) [] []
-  unfolding loud waits stepRecords pointRecords leap
+  unfolding endsQuiet waits stepRecords pointRecords leap
   after-quiet i us t v e q =
       let s = or-left (stops t) (reaches ks i t) q in
       let f = info-none (key i (arrival t)) ks ds (or-right (stops t) (reaches ks i t) q) in
@@ -75,7 +75,7 @@ module _ (ks ds : List ℕ) (clock : ℕ) where
   -- ---- a quiet tick
 
   abbrev Still : ℕ → Track → Type 0
-  Still n t = Valid t × (loud ks n t ≡ false)
+  Still n t = Valid t × (endsQuiet ks n t ≡ false)
 
   module _ (n present : ℕ) (pre : List Track) (t : Track) (ts : List Track) (l : length pre ≡ n)
       (ih : (y : Track) → stepAll ks ds clock (players (suc n) (present / 2) ts) (staged (pre ++ y ∷ ts) [] [])
@@ -116,28 +116,28 @@ module _ (ks ds : List ℕ) (clock : ℕ) where
 
   -- ---- a tick that is not quiet
 
-  module _ (tell : Telling ks ds) where
+  module _ (tell : NonzeroInfos ks ds) where
     -- a step that reaches a point writes a record
     point-written : (i : ℕ) (t : Track) → reaches ks i t ≡ true → 0 < length (stepRecords clock i t (foundBy ks ds i t))
-    unfolding Telling stepRecords pointRecords
+    unfolding NonzeroInfos stepRecords pointRecords
     point-written i t h = rw (ne-eqb (foundBy ks ds i t) 0 (tell (key i (arrival t)) h)) (omega arith)
 
-    loud-written : (i : ℕ) (s : Stage) {t : Track} → trackAt (s .tracks) i ≡ t → stops t ≡ false → loud ks i t ≡ true
+    ends-quiet-written : (i : ℕ) (s : Stage) {t : Track} → trackAt (s .tracks) i ≡ t → stops t ≡ false → endsQuiet ks i t ≡ true
         → 0 < length (stepMember ks ds clock i s .records)
-    unfolding loud
-    loud-written i s {t} e r h =
+    unfolding endsQuiet
+    ends-quiet-written i s {t} e r h =
         let w = point-written i t (or-other (stops t) (reaches ks i t) r h) in
         rw (member-is i s e)
         (rw (length-append (s .records) (stepRecords clock i t (foundBy ks ds i t))) (omega arith))
 
-    abbrev Loud : ℕ → Track → Type 0
-    Loud n t = loud ks n t ≡ true
+    abbrev EndsQuiet : ℕ → Track → Type 0
+    EndsQuiet n t = endsQuiet ks n t ≡ true
 
     abbrev Stops : ℕ → Track → Type 0
     Stops n t = stops t ≡ true
 
     module _ (n present : ℕ) (pre : List Track) (t : Track) (ts : List Track) (l : length pre ≡ n) (rs : List Record) (qs : List ℕ)
-        (ih : (y : Track) (rs : List Record) (qs : List ℕ) → SomePlaying Loud (suc n) (present / 2) ts
+        (ih : (y : Track) (rs : List Record) (qs : List ℕ) → SomePlaying EndsQuiet (suc n) (present / 2) ts
         → (0 < length (stepAll ks ds clock (players (suc n) (present / 2) ts) (staged (pre ++ y ∷ ts) rs qs) .records))
         ⊎ SomePlaying Stops (suc n) (present / 2) ts) where
       abbrev stage : Stage
@@ -150,19 +150,19 @@ module _ (ks ds : List ℕ) (clock : ℕ) where
       Then d =
           (0 < length (stepAll ks ds clock (keep d n (players (suc n) (present / 2) ts)) stage .records)) ⊎ SomePlaying Stops n present (t ∷ ts)
 
-      loud-here : (d : ℕ) → 0 < playBit (present % 2) t → loud ks n t ≡ true → (b : Bool) → stops t ≡ b → Then (suc d)
+      ends-quiet-here : (d : ℕ) → 0 < playBit (present % 2) t → endsQuiet ks n t ≡ true → (b : Bool) → stops t ≡ b → Then (suc d)
       unfolding SomePlaying stepAll
-      loud-here d p h true e = inr (inl (p, e))
-      loud-here d p h false e =
-          let w = loud-written n stage read e h in
+      ends-quiet-here d p h true e = inr (inl (p, e))
+      ends-quiet-here d p h false e =
+          let w = ends-quiet-written n stage read e h in
           inl (omega (arith, steps-more ks ds clock (players (suc n) (present / 2) ts) (stepMember ks ds clock n stage)))
 
-      loud-head : (d : ℕ) → playBit (present % 2) t ≡ d → SomePlaying Loud n present (t ∷ ts) → Then d
+      ends-quiet-head : (d : ℕ) → playBit (present % 2) t ≡ d → SomePlaying EndsQuiet n present (t ∷ ts) → Then d
       unfolding SomePlaying stepAll
-      loud-head zero e (inl a) = absurd (omega arith)
-      loud-head (suc d) e (inl a) = loud-here d (a .0) (a .1) (stops t) refl
-      loud-head zero e (inr a) = ⊎-elim inl (λ b. inr (inr b)) (ih t rs qs a)
-      loud-head (suc d) e (inr a) =
+      ends-quiet-head zero e (inl a) = absurd (omega arith)
+      ends-quiet-head (suc d) e (inl a) = ends-quiet-here d (a .0) (a .1) (stops t) refl
+      ends-quiet-head zero e (inr a) = ⊎-elim inl (λ b. inr (inr b)) (ih t rs qs a)
+      ends-quiet-head (suc d) e (inr a) =
           let y = step t (waits (foundBy ks ds n t)) in
           let rs′ = rs ++ stepRecords clock n t (foundBy ks ds n t) in
           let qs′ = qs ++ reachedBy (foundBy ks ds n t) in
@@ -173,56 +173,56 @@ module _ (ks ds : List ℕ) (clock : ℕ) where
           (0 < length (stepAll ks ds clock (players (suc n) (present / 2) ts) v .records)) ⊎ SomePlaying Stops n present (t ∷ ts))
           (sym s) (⊎-elim inl (λ b. inr (inr b)) (ih y rs′ qs′ a))
 
-    loud-list : (n present : ℕ) (pre ts : List Track) → length pre ≡ n → (rs : List Record) (qs : List ℕ) → SomePlaying Loud n present ts
+    ends-quiet-list : (n present : ℕ) (pre ts : List Track) → length pre ≡ n → (rs : List Record) (qs : List ℕ) → SomePlaying EndsQuiet n present ts
         → (0 < length (stepAll ks ds clock (players n present ts) (staged (pre ++ ts) rs qs) .records)) ⊎ SomePlaying Stops n present ts
     unfolding players SomePlaying
-    loud-list n present pre [] l rs qs a = absurd a
-    loud-list n present pre (t ∷ ts) l rs qs a =
-        loud-head n present pre t ts l rs qs
-        (λ y rs′ qs′ b. rw (append-snoc pre y ts) at (loud-list (suc n) (present / 2) (pre ++ (y ∷ [])) ts (longer pre y l) rs′ qs′ b))
+    ends-quiet-list n present pre [] l rs qs a = absurd a
+    ends-quiet-list n present pre (t ∷ ts) l rs qs a =
+        ends-quiet-head n present pre t ts l rs qs
+        (λ y rs′ qs′ b. rw (append-snoc pre y ts) at (ends-quiet-list (suc n) (present / 2) (pre ++ (y ∷ [])) ts (longer pre y l) rs′ qs′ b))
         (playBit (present % 2) t) refl a
 
-    tick-loud : (present : ℕ) (ts : List Track) → length ts ≡ trackCount → SomePlaying Loud 0 present ts
+    tick-ends-quiet : (present : ℕ) (ts : List Track) → length ts ≡ trackCount → SomePlaying EndsQuiet 0 present ts
         → (0 < length (tickFrom ks ds clock present ts .records)) ⊎ SomePlaying Stops 0 present ts
     unfolding tickFrom
-    tick-loud present ts l a =
+    tick-ends-quiet present ts l a =
         let s = stepAll ks ds clock (members (playingWord present ts)) (staged ts [] []) in
         let g = run-more clock (s .reached) s in
         ⊎-elim (λ (w : 0 < length (s .records)). inl (omega arith)) inr
-        (rw (members-playing present ts l) (loud-list 0 present [] ts refl [] [] a))
+        (rw (members-playing present ts l) (ends-quiet-list 0 present [] ts refl [] [] a))
 
 -- ---- the laws that an advance uses
 
-module _ (ks ds : List ℕ) (present : ℕ) (ts : List Track) (l : length ts ≡ trackCount) (able : Leapable ts (members (playingWord present ts))) where
+module _ (ks ds : List ℕ) (present : ℕ) (ts : List Track) (l : length ts ≡ trackCount) (leapable : Leapable ts (members (playingWord present ts))) where
   abbrev word : ℕ
   word = playingWord present ts
 
-  calm-playing : (r : ℕ) → Each (λ i. Calm ks r i (trackAt ts i)) (members word)
-      → EachPlaying (λ n t. Valid t × Calm ks r n t) 0 present ts
-  calm-playing r q =
-      each-both (λ n t. Valid t) (Calm ks r) 0 present ts (able-valid present ts l able) (each-playing (Calm ks r) present ts l q)
+  quiet-playing : (r : ℕ) → Each (λ i. QuietFor ks r i (trackAt ts i)) (members word)
+      → EachPlaying (λ n t. Valid t × QuietFor ks r n t) 0 present ts
+  quiet-playing r q =
+      each-both (λ n t. Valid t) (QuietFor ks r) 0 present ts (leapable-valid present ts l leapable) (each-playing (QuietFor ks r) present ts l q)
 
-  -- a tick in which no playing track is loud writes no record, reaches no point, and is a step of each
-  pub quiet-tick : (clock : ℕ) → Each (λ i. loud ks i (trackAt ts i) ≡ false) (members word)
+  -- a tick in which no step ends the quiet writes no record, reaches no point, and is a step of each
+  pub quiet-tick : (clock : ℕ) → Each (λ i. endsQuiet ks i (trackAt ts i) ≡ false) (members word)
       → tickFrom ks ds clock present ts ≡ staged (leapTracks 1 present ts) [] []
   quiet-tick clock q =
       tick-list ks ds clock present ts l
-      (each-both (λ n t. Valid t) (λ n t. loud ks n t ≡ false) 0 present ts (able-valid present ts l able)
-      (each-playing (λ n t. loud ks n t ≡ false) present ts l q))
+      (each-both (λ n t. Valid t) (λ n t. endsQuiet ks n t ≡ false) 0 present ts (leapable-valid present ts l leapable)
+      (each-playing (λ n t. endsQuiet ks n t ≡ false) present ts l q))
 
   -- each of r quiet ticks is one step more of the leap
-  pub stretch-ticks : (r : ℕ) → Each (λ i. Calm ks r i (trackAt ts i)) (members word) → (clock j : ℕ) → j < r
+  pub stretch-ticks : (r : ℕ) → Each (λ i. QuietFor ks r i (trackAt ts i)) (members word) → (clock j : ℕ) → j < r
       → tickFrom ks ds clock present (leapTracks j present ts) ≡ staged (leapTracks (suc j) present ts) [] []
   stretch-ticks r q clock j h =
       let e : j + 1 ≡ suc j = omega arith in
       tick-list ks ds clock present (leapTracks j present ts) (leap-tracks-long j present ts ∙ l)
       (each-leapt (Still ks ds clock) j 0 present ts
-      (each-implies (λ n t. Valid t × Calm ks r n t) (λ n t. Still ks ds clock n (leap t j))
-      (λ n t p. (leap-valid t (p .0) j, p .1 j h)) 0 present ts (calm-playing r q)))
-      ∙ ap (λ (us : List Track). staged us [] []) (leap-tracks-add present ts l able j 1 ∙ ap (λ (k : ℕ). leapTracks k present ts) e)
+      (each-implies (λ n t. Valid t × QuietFor ks r n t) (λ n t. Still ks ds clock n (leap t j))
+      (λ n t p. (leap-valid t (p .0) j, p .1 j h)) 0 present ts (quiet-playing r q)))
+      ∙ ap (λ (us : List Track). staged us [] []) (leap-tracks-add present ts l leapable j 1 ∙ ap (λ (k : ℕ). leapTracks k present ts) e)
 
   -- after the fewest quiet ticks, unless they are all that were asked for, the next writes a record or stops a playing track
-  pub maximal : Telling ks ds → (clock a r : ℕ) → Fewest ks ts (members word) a r → r < a
+  pub maximal : NonzeroInfos ks ds → (clock a r : ℕ) → Fewest ks ts (members word) a r → r < a
       → (0 < length (tickFrom ks ds clock present (leapTracks r present ts) .records))
       ⊎ Some (λ i. stops (trackAt (leapTracks r present ts) i) ≡ true) (members word)
   maximal tell clock a r f h =
@@ -231,5 +231,5 @@ module _ (ks ds : List ℕ) (present : ℕ) (ts : List Track) (l : length ts ≡
       (λ s.
       inr
       (rw (leap-tracks-word r present ts) at (some-member (λ n t. stops t ≡ true) present (leapTracks r present ts) ls s)))
-      (tick-loud ks ds clock tell present (leapTracks r present ts) ls
-      (some-leapt (λ n t. loud ks n t ≡ true) r 0 present ts (some-playing (λ n t. loud ks n (leap t r) ≡ true) present ts l (f .exact h))))
+      (tick-ends-quiet ks ds clock tell present (leapTracks r present ts) ls
+      (some-leapt (λ n t. endsQuiet ks n t ≡ true) r 0 present ts (some-playing (λ n t. endsQuiet ks n (leap t r) ≡ true) present ts l (f .exact h))))

@@ -10,14 +10,14 @@ use Rattle.track.specs.Rule.{clockEnd}
 use Rattle.track.specs.Leap.{leap}
 use Rattle.board.specs.Board.{trackAt}
 use Rattle.board.specs.Replay.{Each}
-use Rattle.board.specs.Quiet.{Some, QuietSteps, Fewest, Able, Leapable, leapInto}
+use Rattle.board.specs.Quiet.{Some, QuietSteps, Fewest, CanLeap, Leapable, leapInto}
 use Rattle.board.proofs.points.Keys.{lt-or-ge}
 
 module _ (ts : List Track) (ms is : List ℕ) (i : ℕ) (e : ms ≡ i ∷ is) where
   -- the first track can be leapt, and so can the others
-  pub able-next : Leapable ts ms → Able (trackAt ts i) × Leapable ts is
+  pub leapable-next : Leapable ts ms → CanLeap (trackAt ts i) × Leapable ts is
   unfolding Each
-  able-next a = rw e at a
+  leapable-next a = rw e at a
 
   -- what is the fewest for the others, taken from the lesser of a bound and the steps of the first, is the fewest for all
   pub fewest-next : (ks : List ℕ) (a q : ℕ) {b : ℕ} (r : ℕ) → a ≤ clockEnd → QuietSteps ks i (trackAt ts i) q → b ≡ min a q

@@ -17,7 +17,7 @@ use Rattle.track.proofs.Checks.{sound-of, sound-is}
 use Rattle.board.specs.declared.Board.{Board}
 use Rattle.board.specs.declared.points.Point.{Point}
 use Rattle.board.specs.Points.{pointMost, ascendingFrom, pointOf, trackCount}
-use Rattle.board.specs.Board.{eventMost, trackAt, isPresent, PointRule, Shaped, Unbroken, tracksTest, placeTest, deedTest, pointsTest, shapeTest, unbrokenParts, unbrokenTest}
+use Rattle.board.specs.Board.{eventMost, trackAt, isPresent, PointRule, Shaped, Unbroken, tracksTest, placeTest, allowedTest, pointsTest, shapeTest, unbrokenParts, unbrokenTest}
 
 -- ---- presence
 
@@ -79,8 +79,8 @@ module _ (present : ℕ) (ts : List Track) (p : Point) where
   target : Bool
   target = cond (eqb (p .command) 0) (eqb (p .target) 0) (isPresent present (p .target))
 
-  pub point-of : placeTest present (trackAt ts (p .track)) p ≡ true → deedTest present p ≡ true → PointRule present ts p
-  unfolding placeTest deedTest owner target
+  pub point-of : placeTest present (trackAt ts (p .track)) p ≡ true → allowedTest present p ≡ true → PointRule present ts p
+  unfolding placeTest allowedTest owner target
   point-of h k =
       let a = both (isPresent present (p .track)) (leb (owner .min .0) (p .position .0) && leb (p .position .0) (owner .max .0)) h in
       let b = both (leb (owner .min .0) (p .position .0)) (leb (p .position .0) (owner .max .0)) (a .1) in
@@ -98,8 +98,8 @@ module _ (present : ℕ) (ts : List Track) (p : Point) where
         target = g .1;
       }
 
-  point-is : PointRule present ts p → (placeTest present (trackAt ts (p .track)) p ≡ true) × (deedTest present p ≡ true)
-  unfolding placeTest deedTest
+  point-is : PointRule present ts p → (placeTest present (trackAt ts (p .track)) p ≡ true) × (allowedTest present p ≡ true)
+  unfolding placeTest allowedTest
   point-is r = (
     both-is (r .track) (both-is (le-leb _ _ (r .low)) (le-leb _ _ (r .high))),
     both-is (le-leb _ _ (r .event .0)) (both-is (le-leb _ _ (r .event .1)) (both-is (le-leb _ _ (r .wait)) (both-is (le-leb _ _ (r .command)) (r .target)))),
@@ -119,9 +119,9 @@ module _ (present : ℕ) (ts : List Track) where
       let p = pointOf k d in
       let place = placeTest present (trackAt ts (p .track)) p in
       let rest = pointsTest present ts (suc k) ks ds in
-      let a = both (leb lo k) (place && (deedTest present p && rest)) h in
-      let b = both place (deedTest present p && rest) (a .1) in
-      let c = both (deedTest present p) rest (b .1) in
+      let a = both (leb lo k) (place && (allowedTest present p && rest)) h in
+      let b = both place (allowedTest present p && rest) (a .1) in
+      let c = both (allowedTest present p) rest (b .1) in
       let r = points-of (suc k) ks ds (le-of-suc-le-suc l) (c .1) in
       (both-is (a .0) (r .0), at (point-of present ts p (b .0) (c .0)) (r .1))
     where

@@ -18,7 +18,7 @@ use Rattle.track.specs.Number.{naturalOf}
 use Rattle.board.specs.declared.points.Point.{Point}
 use Rattle.board.specs.Board.{foundIn}
 use Rattle.board.specs.Points.{pointMost, stride, pointOf, eventOf, waitOf, commandOf, targetOf, keyEnd, infoEnd}
-use Rattle.board.specs.Board.{eventMost, noTrack, trackAt, isPresent, tracksTest, placeTest, deedTest, pointsTest, shapeTest, unbrokenParts}
+use Rattle.board.specs.Board.{eventMost, noTrack, trackAt, isPresent, tracksTest, placeTest, allowedTest, pointsTest, shapeTest, unbrokenParts}
 use Rattle.board.proofs.rules.Broken.{present-not}
 
 -- the length of an array of structs, from what its row tells
@@ -53,7 +53,7 @@ module _ (word : ℕ) (ts : List Track) (i : ℕ) (clock : Ticks) where
   unfolding tracksTest
   tracks-end l = rw (drop-of-length-le ts {i = i} l)
 
--- ---- a point's place and deed
+-- ---- a point's place, and what else it has
 
 module _ (present : ℕ) (owner : Track) (p : Point) where
   pub place-absent : isPresent present (p .track) ≡ false → false ≡ placeTest present owner p
@@ -70,33 +70,33 @@ module _ (present : ℕ) (owner : Track) (p : Point) where
   place-rest h l = simp (h, le-leb _ _ l)
 
 module _ (present : ℕ) (p : Point) where
-  pub deed-none : p .event ≡ 0 → false ≡ deedTest present p
-  unfolding deedTest
-  deed-none h = simp h
+  pub allowed-none : p .event ≡ 0 → false ≡ allowedTest present p
+  unfolding allowedTest
+  allowed-none h = simp h
 
-  pub deed-event : eventMost < p .event → false ≡ deedTest present p
-  unfolding deedTest
-  deed-event h = simp (lt-leb _ _ h, and-false)
+  pub allowed-event : eventMost < p .event → false ≡ allowedTest present p
+  unfolding allowedTest
+  allowed-event h = simp (lt-leb _ _ h, and-false)
 
-  pub deed-wait : 1 < p .wait → false ≡ deedTest present p
-  unfolding deedTest
-  deed-wait h = simp (lt-leb _ _ h, and-false)
+  pub allowed-wait : 1 < p .wait → false ≡ allowedTest present p
+  unfolding allowedTest
+  allowed-wait h = simp (lt-leb _ _ h, and-false)
 
-  pub deed-command : 4 < p .command → false ≡ deedTest present p
-  unfolding deedTest
-  deed-command h = simp (lt-leb _ _ h, and-false)
+  pub allowed-command : 4 < p .command → false ≡ allowedTest present p
+  unfolding allowedTest
+  allowed-command h = simp (lt-leb _ _ h, and-false)
 
   module _ (e : p .event ≡ 0 → ⊥) (m : p .event ≤ eventMost) (w : p .wait ≤ 1) (c : p .command ≤ 4) where
     one : leb 1 (p .event) ≡ true
     one = le-leb 1 (p .event) (omega arith)
 
-    pub deed-free : p .command ≡ 0 → eqb (p .target) 0 ≡ deedTest present p
-    unfolding deedTest
-    deed-free h = simp (one, le-leb _ _ m, le-leb _ _ w, le-leb _ _ c, eq-eqb _ _ h)
+    pub allowed-free : p .command ≡ 0 → eqb (p .target) 0 ≡ allowedTest present p
+    unfolding allowedTest
+    allowed-free h = simp (one, le-leb _ _ m, le-leb _ _ w, le-leb _ _ c, eq-eqb _ _ h)
 
-    pub deed-bound : (p .command ≡ 0 → ⊥) → isPresent present (p .target) ≡ deedTest present p
-    unfolding deedTest
-    deed-bound h = simp (one, le-leb _ _ m, le-leb _ _ w, le-leb _ _ c, ne-eqb _ _ h)
+    pub allowed-bound : (p .command ≡ 0 → ⊥) → isPresent present (p .target) ≡ allowedTest present p
+    unfolding allowedTest
+    allowed-bound h = simp (one, le-leb _ _ m, le-leb _ _ w, le-leb _ _ c, ne-eqb _ _ h)
 
 -- ---- the points
 
@@ -112,9 +112,9 @@ module _ (present : ℕ) (ts : List Track) (lo k d : ℕ) (ks ds : List ℕ) whe
   unfolding pointsTest pointOf
   misplaced h = simp (h, and-false)
 
-  unable : deedTest present (pointOf k d) ≡ false → false ≡ All
+  not-allowed : allowedTest present (pointOf k d) ≡ false → false ≡ All
   unfolding pointsTest pointOf
-  unable h = simp (h, and-false)
+  not-allowed h = simp (h, and-false)
 
   -- a key past the sixteenth track, or an info past the sixteenth target, breaks the rules
   pub points-track : keyEnd ≤ k → false ≡ All
@@ -123,9 +123,9 @@ module _ (present : ℕ) (ts : List Track) (lo k d : ℕ) (ks ds : List ℕ) whe
       misplaced (simp (← present-not present (k / stride) (omega arith)))
 
   pub points-target : infoEnd ≤ d → false ≡ All
-  unfolding deedTest pointOf
+  unfolding allowedTest pointOf
   points-target h =
-      unable
+      not-allowed
       (simp (← present-not present (targetOf d) (omega arith), ne-eqb (targetOf d) 0 (omega arith)) (either (eqb (commandOf d) 0)))
     where
       either : (b : Bool) →
@@ -137,9 +137,9 @@ module _ (present : ℕ) (ts : List Track) (lo k d : ℕ) (ks ds : List ℕ) whe
     pub points-place : b ≡ false → false ≡ All
     points-place h = misplaced (ap (placeTest present (trackAt ts (k / stride))) (sym e) ∙ sym eb ∙ h)
 
-    module _ {c : Bool} (ec : c ≡ deedTest present p) where
-      pub points-deed : c ≡ false → false ≡ All
-      points-deed h = unable (ap (deedTest present) (sym e) ∙ sym ec ∙ h)
+    module _ {c : Bool} (ec : c ≡ allowedTest present p) where
+      pub points-allowed : c ≡ false → false ≡ All
+      points-allowed h = not-allowed (ap (allowedTest present) (sym e) ∙ sym ec ∙ h)
 
       pub points-next : lo ≤ k → b ≡ true → c ≡ true → pointsTest present ts (k + 1) ks ds ≡ All
       unfolding pointsTest pointOf
@@ -147,7 +147,7 @@ module _ (present : ℕ) (ts : List Track) (lo k d : ℕ) (ks ds : List ℕ) whe
           simp (
             le-leb lo k l,
             ap (placeTest present (trackAt ts (k / stride))) (sym e) ∙ sym eb ∙ h,
-            ap (deedTest present) (sym e) ∙ sym ec ∙ g,
+            ap (allowedTest present) (sym e) ∙ sym ec ∙ g,
             add-one,
           )
 

@@ -17,7 +17,7 @@ use borrow.Author.Tests.{eqb-true, eq-eqb, ne-eqb, leb-true, ltb-true, le-leb, l
 use Rattle.track.specs.Number.{naturalOf, onNatural, onPlace, within, coordinateOf, valueOf, clampedOf}
 use Rattle.track.specs.declared.number.Natural.{Natural}
 use Rattle.track.specs.declared.number.Natural.the-variants as natural
-use Rattle.board.specs.Board.{isPresent, eventMost, Unbroken, PointRule, trackAt, deedTest, placeTest}
+use Rattle.board.specs.Board.{isPresent, eventMost, Unbroken, PointRule, trackAt, allowedTest, placeTest}
 use Rattle.track.specs.declared.Coordinate.{Coordinate}
 use Rattle.track.specs.declared.Track.{Track}
 use Rattle.track.specs.declared.number.Place.{Place}
@@ -26,64 +26,64 @@ use Rattle.board.specs.declared.points.Point.{Point}
 use Rattle.board.specs.declared.query.PointRead.the-variants as point
 use Rattle.board.specs.declared.points.Stored.{Stored}
 use Rattle.board.specs.declared.setup.Outcome.{Outcome}
-use Rattle.board.specs.declared.setup.Drawn.{Drawn}
-use Rattle.board.specs.declared.setup.Drawn.the-variants as drawn
+use Rattle.board.specs.declared.setup.Described.{Described}
+use Rattle.board.specs.declared.setup.Described.the-variants as described
 use Rattle.track.specs.Rule.{coordinateLast}
 use Rattle.track.proofs.Numbers.{between-clamped, clamped-most, natural-in, within-in, back}
 use Rattle.track.proofs.Tests.{both, both-is, same-tests}
 use Rattle.board.specs.Points.{stride, keysOf, infosOf, infoAt, pointOf, countOf, between, commandOf, targetOf, keyEnd, infoEnd}
 use Rattle.board.specs.Query.{inRange, pointRead}
-use Rattle.board.specs.Setup.{drawnFrom, ableOnly, pointWith, accepted, refused, boardWith, putPoints, onDrawn}
+use Rattle.board.specs.Setup.{describedBy, allowedOnly, pointWith, accepted, refused, boardWith, putPoints, onDescribed}
 use Rattle.board.specs.declared.Board.{Board}
 use Rattle.board.proofs.rules.Broken.{present-small, point-of}
 use Rattle.board.proofs.points.Table.{info-entry}
 use Rattle.board.proofs.rules.Present.{target-below}
 
--- ---- the point that a call draws
+-- ---- the point that a call describes
 
-Good? : Drawn → (Point → Type 0) → Type 0
-Good? (drawn.Good p) P = P p
-Good? drawn.Bad P = Unit {0}
+Good? : Described → (Point → Type 0) → Type 0
+Good? (described.Good p) P = P p
+Good? described.Bad P = Unit {0}
 
 module _ (P : Point → Type 0) where
-  good-natural : (n : ℤ) (least most : ℕ) (f : ℕ → Drawn) → ((k : ℕ) → least ≤ k → k ≤ most → Good? (f k) P) →
-      Good? (onNatural (naturalOf n least most) f drawn.Bad) P
+  good-natural : (n : ℤ) (least most : ℕ) (f : ℕ → Described) → ((k : ℕ) → least ≤ k → k ≤ most → Good? (f k) P) →
+      Good? (onNatural (naturalOf n least most) f described.Bad) P
   unfolding Good?
   good-natural n least most f h = go (naturalOf n least most) refl
     where
-      go : (r : Natural) → naturalOf n least most ≡ r → Good? (onNatural r f drawn.Bad) P
+      go : (r : Natural) → naturalOf n least most ≡ r → Good? (onNatural r f described.Bad) P
       go (natural.In k) e = let b = natural-in n least most e in h k (b .1) (b .2)
       go natural.Outside e = tt
 
-  good-place : (low high : ℕ) (q : Place) (f : Coordinate → Drawn) → ((c : Coordinate) → low ≤ c .0 → c .0 ≤ high → Good? (f c) P) →
-      Good? (onPlace (within low high q) f drawn.Bad) P
+  good-place : (low high : ℕ) (q : Place) (f : Coordinate → Described) → ((c : Coordinate) → low ≤ c .0 → c .0 ≤ high → Good? (f c) P) →
+      Good? (onPlace (within low high q) f described.Bad) P
   unfolding Good?
   good-place low high q f h = go (within low high q) refl
     where
-      go : (r : Place) → within low high q ≡ r → Good? (onPlace r f drawn.Bad) P
+      go : (r : Place) → within low high q ≡ r → Good? (onPlace r f described.Bad) P
       go (place.At c) e = let b = within-in low high q e in h c (b .0) (b .1)
       go place.Outside e = tt
 
-  good-able : (present : ℕ) (p : Point) → (deedTest present p ≡ true → P p) → Good? (ableOnly present p) P
+  good-allowed : (present : ℕ) (p : Point) → (allowedTest present p ≡ true → P p) → Good? (allowedOnly present p) P
   unfolding Good?
-  good-able present p h = go (deedTest present p) refl
+  good-allowed present p h = go (allowedTest present p) refl
     where
-      go : (b : Bool) → deedTest present p ≡ b → Good? (cond b (drawn.Good p) drawn.Bad) P
+      go : (b : Bool) → allowedTest present p ≡ b → Good? (cond b (described.Good p) described.Bad) P
       go true e = h e
       go false e = tt
 
--- a point that is drawn for a present track keeps the rules of a point
-pub drawn-rule : (present i : ℕ) (ts : List Track) (position event wait command target : ℤ) {p : Point} → isPresent present i ≡ true →
-    drawnFrom present i (trackAt ts i) position event wait command target ≡ drawn.Good p → PointRule present ts p
-unfolding drawnFrom Good? placeTest
-drawn-rule present i ts position event wait command target h e =
-    subst (λ (r : Drawn). Good? r (PointRule present ts)) e
+-- a point that is described for a present track keeps the rules of a point
+pub described-rule : (present i : ℕ) (ts : List Track) (position event wait command target : ℤ) {p : Point} → isPresent present i ≡ true →
+    describedBy present i (trackAt ts i) position event wait command target ≡ described.Good p → PointRule present ts p
+unfolding describedBy Good? placeTest
+described-rule present i ts position event wait command target h e =
+    subst (λ (r : Described). Good? r (PointRule present ts)) e
     (good-place (PointRule present ts) (trackAt ts i .min .0) (trackAt ts i .max .0) (coordinateOf position) _
     (λ l low high. good-natural (PointRule present ts) event 1 eventMost _
     (λ ev _ _. good-natural (PointRule present ts) wait 0 1 _
     (λ w _ _. good-natural (PointRule present ts) command 0 4 _
     (λ c _ _. good-natural (PointRule present ts) target 0 15 _
-    (λ g _ _. good-able (PointRule present ts) present (pointWith i l ev w c g)
+    (λ g _ _. good-allowed (PointRule present ts) present (pointWith i l ev w c g)
     (λ d. point-of present ts (pointWith i l ev w c g) (both-is h (both-is (le-leb _ _ low) (le-leb _ _ high))) d)))))))
 
 -- ---- the keys of an unbroken board
@@ -192,16 +192,16 @@ module _ (b : Board) (refusal : ℕ) {s x : Stored} (e : s ≡ x) where
       ∙ ap (λ (y : Stored). accepted (boardWith b (b .tracks) (b .present) (y .points) (b .held))) e
       ∙ simp (ap (λ (y : Stored). y .done) (sym e) ∙ h)
 
--- what a caller learns of `draw` at the numbers that it passed on, which the code reads back from their bits
-pub drawn-told : (present i : ℕ) (owner : Track) {position event wait command target : ℤ} {r x : Drawn} → SFits w64 position → SFits w64 event →
+-- what a caller learns of `describe` at the numbers that it passed on, which the code reads back from their bits
+pub described-told : (present i : ℕ) (owner : Track) {position event wait command target : ℤ} {r x : Described} → SFits w64 position → SFits w64 event →
     SFits w64 wait → SFits w64 command → SFits w64 target →
-    r ≡ drawnFrom present i owner (back position) (back event) (back wait) (back command) (back target) → r ≡ x →
-    drawnFrom present i owner position event wait command target ≡ x
-drawn-told present i owner fp fe fw fc ft e q =
-    sym (λ j. drawnFrom present i owner (toZ-ofZ fp j) (toZ-ofZ fe j) (toZ-ofZ fw j) (toZ-ofZ fc j) (toZ-ofZ ft j)) ∙ sym e ∙ q
+    r ≡ describedBy present i owner (back position) (back event) (back wait) (back command) (back target) → r ≡ x →
+    describedBy present i owner position event wait command target ≡ x
+described-told present i owner fp fe fw fc ft e q =
+    sym (λ j. describedBy present i owner (toZ-ofZ fp j) (toZ-ofZ fe j) (toZ-ofZ fw j) (toZ-ofZ fc j) (toZ-ofZ ft j)) ∙ sym e ∙ q
 
-pub drawn-bad : (b : Board) {d : Drawn} → d ≡ drawn.Bad → {r : Outcome} → r ≡ refused 3 b → r ≡ onDrawn b d
-drawn-bad b e q = q ∙ ap (onDrawn b) (sym e)
+pub described-bad : (b : Board) {d : Described} → d ≡ described.Bad → {r : Outcome} → r ≡ refused 3 b → r ≡ onDescribed b d
+described-bad b e q = q ∙ ap (onDescribed b) (sym e)
 
-pub drawn-good : (b : Board) {d : Drawn} {p : Point} → d ≡ drawn.Good p → {r : Outcome} → r ≡ onDrawn b (drawn.Good p) → r ≡ onDrawn b d
-drawn-good b e q = q ∙ ap (onDrawn b) (sym e)
+pub described-good : (b : Board) {d : Described} {p : Point} → d ≡ described.Good p → {r : Outcome} → r ≡ onDescribed b (described.Good p) → r ≡ onDescribed b d
+described-good b e q = q ∙ ap (onDescribed b) (sym e)

@@ -26,13 +26,13 @@ use Rattle.board.specs.declared.Board.{Board}
 use Rattle.board.specs.declared.points.Point.{Point}
 use Rattle.board.specs.declared.points.Stored.{Stored}
 use Rattle.board.specs.declared.setup.Outcome.{Outcome}
-use Rattle.board.specs.declared.setup.Drawn.{Drawn}
-use Rattle.board.specs.declared.setup.Drawn.the-variants as drawn
+use Rattle.board.specs.declared.setup.Described.{Described}
+use Rattle.board.specs.declared.setup.Described.the-variants as described
 use Rattle.board.specs.Points.{key, keyOf, infoOf, storedIn, droppedFrom, trackCount}
 use Rattle.board.specs.Board.{trackAt, isPresent, PointRule, unbrokenTest, foundIn}
-use Rattle.board.specs.Setup.{accepted, refused, boardWith, whole, onTrack, putTrack, putPoints, onDrawn, drawnFrom, setUp, addTrack, setPoint, dropPoint, clearBoard}
+use Rattle.board.specs.Setup.{accepted, refused, boardWith, onUnbroken, onTrack, putTrack, putPoints, onDescribed, describedBy, setUp, addTrack, setPoint, dropPoint, clearBoard}
 use Rattle.board.proofs.rules.Present.{found-in}
-use Rattle.board.proofs.setup.Guards.{drawn-rule}
+use Rattle.board.proofs.setup.Guards.{described-rule}
 
 -- ---- a number or a position
 
@@ -50,7 +50,7 @@ by-place P place.Outside f x does other = other
 -- ---- the five calls
 
 module _ (b : Board) (P : Outcome → Type 0) (declines : (n : ℕ) → P (refused n b)) where
-  on-board : {o : Outcome} → P o → P (whole b o)
+  on-board : {o : Outcome} → P o → P (onUnbroken b o)
   on-board h = cond-cases P (unbrokenTest b) (λ _. h) (λ _. declines 3)
 
   on-track : (track : ℤ) (f : ℕ → Outcome) → ((i : ℕ) → isPresent (b .present) i ≡ true → P (f i)) → P (onTrack b track f)
@@ -93,12 +93,12 @@ module _ (b : Board) (P : Outcome → Type 0) (declines : (n : ℕ) → P (refus
       on-board
       (on-track track _
       (λ i present. cond-cases P (settled (trackAt (b .tracks) i .mode))
-      (λ _. go (drawnFrom (b .present) i (trackAt (b .tracks) i) position event wait command target)
-      (λ p e. drawn-rule (b .present) i (b .tracks) position event wait command target present e)) (λ _. declines 2)))
+      (λ _. go (describedBy (b .present) i (trackAt (b .tracks) i) position event wait command target)
+      (λ p e. described-rule (b .present) i (b .tracks) position event wait command target present e)) (λ _. declines 2)))
     where
-      go : (d : Drawn) → ((p : Point) → d ≡ drawn.Good p → PointRule (b .present) (b .tracks) p) → P (onDrawn b d)
-      go (drawn.Good p) rule = on-points 5 (storedIn (b .points) (keyOf p) (infoOf p)) (does p (rule p refl))
-      go drawn.Bad rule = declines 3
+      go : (d : Described) → ((p : Point) → d ≡ described.Good p → PointRule (b .present) (b .tracks) p) → P (onDescribed b d)
+      go (described.Good p) rule = on-points 5 (storedIn (b .points) (keyOf p) (infoOf p)) (does p (rule p refl))
+      go described.Bad rule = declines 3
 
   -- a drop is refused, or takes a point out
   pub drop-point-ways : (track position : ℤ) →

@@ -17,7 +17,7 @@ use Rattle.track.proofs.Arrivals.{step-valid, step-passes, entered-valid, enter
 use Rattle.board.specs.declared.Board.{Board}
 use Rattle.board.specs.declared.log.Record.{Record}
 use Rattle.board.specs.Points.{pointMost, ascendingFrom, keysOf, infosOf, infoAt, pointOf, waits, eventOf, waitOf, commandOf, targetOf, trackCount}
-use Rattle.board.specs.Board.{eventMost, trackAt, isPresent, placeTest, deedTest, tracksTest, pointsTest, shapeTest, unbrokenParts, unbrokenTest}
+use Rattle.board.specs.Board.{eventMost, trackAt, isPresent, placeTest, allowedTest, tracksTest, pointsTest, shapeTest, unbrokenParts, unbrokenTest}
 use Rattle.board.specs.Tick.{keep, membersFrom, members, tickMost}
 use Rattle.board.specs.Tick.{Stage, staged, foundBy, stepRecords, reachedBy, stepMember, stepAll, playingWord, tickFrom, tickOf, InfoRule, TracksRule}
 use Rattle.board.proofs.rules.Broken.{tracks-at, tracks-are, shape-same}
@@ -242,7 +242,7 @@ points-same present ts us h lo (k ∷ ks) (d ∷ ds) =
     let b = h (p .track) in
     λ i. leb lo k
     && ((isPresent present (p .track) && (leb (b .0 i .0) (p .position .0) && leb (p .position .0) (b .1 i .0)))
-    && (deedTest present p && points-same present ts us h (suc k) ks ds i))
+    && (allowedTest present p && points-same present ts us h (suc k) ks ds i))
 
 module _ (keys infos : List ℕ) (clock present : ℕ) (ts : List Track) where
   -- a tick keeps the present tracks sound
@@ -284,12 +284,12 @@ tick-keeps b held h l =
 
 module _ (present : ℕ) where
   -- an info that keeps its rule, and whose target is present, if it has a command
-  abbrev pub Able : ℕ → Type 0
-  Able d = InfoRule d × ((commandOf d ≡ 0 → ⊥) → isPresent present (targetOf d) ≡ true)
+  abbrev pub Allowed : ℕ → Type 0
+  Allowed d = InfoRule d × ((commandOf d ≡ 0 → ⊥) → isPresent present (targetOf d) ≡ true)
 
-  deed-able : (k d : ℕ) → deedTest present (pointOf k d) ≡ true → Able d
-  unfolding deedTest pointOf
-  deed-able k d e =
+  info-allowed : (k d : ℕ) → allowedTest present (pointOf k d) ≡ true → Allowed d
+  unfolding allowedTest pointOf
+  info-allowed k d e =
       let target = cond (eqb (commandOf d) 0) (eqb (targetOf d) 0) (isPresent present (targetOf d)) in
       let a = both (leb 1 (eventOf d)) (leb (eventOf d) eventMost && (leb (waitOf d) 1 && (leb (commandOf d) 4 && target))) e in
       let b = both (leb (eventOf d) eventMost) (leb (waitOf d) 1 && (leb (commandOf d) 4 && target)) (a .1) in
@@ -299,31 +299,31 @@ module _ (present : ℕ) where
         λ n. rw (ne-eqb (commandOf d) 0 n) at (c .1),
       )
 
-  none-able : Able 0
-  none-able = (record { event = omega arith; command = omega arith; target = omega arith }, λ n. absurd (n refl))
+  none-allowed : Allowed 0
+  none-allowed = (record { event = omega arith; command = omega arith; target = omega arith }, λ n. absurd (n refl))
 
   -- an info that is found, or 0, is one
-  pub found-able : (ts : List Track) (k lo : ℕ) (ks ds : List ℕ) → pointsTest present ts lo ks ds ≡ true → Able (infoAt k ks ds)
+  pub found-allowed : (ts : List Track) (k lo : ℕ) (ks ds : List ℕ) → pointsTest present ts lo ks ds ≡ true → Allowed (infoAt k ks ds)
   unfolding pointsTest infoAt
-  found-able ts k lo [] ds h = none-able
-  found-able ts k lo (x ∷ ks) [] h = none-able
-  found-able ts k lo (x ∷ ks) (d ∷ ds) h =
+  found-allowed ts k lo [] ds h = none-allowed
+  found-allowed ts k lo (x ∷ ks) [] h = none-allowed
+  found-allowed ts k lo (x ∷ ks) (d ∷ ds) h =
       let p = pointOf x d in
       let place = placeTest present (trackAt ts (p .track)) p in
       let rest = pointsTest present ts (suc x) ks ds in
-      let a = both (leb lo x) (place && (deedTest present p && rest)) h in
-      let b = both place (deedTest present p && rest) (a .1) in
-      let c = both (deedTest present p) rest (b .1) in
-      cond-cases Able (eqb x k) (λ e. deed-able x d (c .0)) (λ e. found-able ts k (suc x) ks ds (c .1))
+      let a = both (leb lo x) (place && (allowedTest present p && rest)) h in
+      let b = both place (allowedTest present p && rest) (a .1) in
+      let c = both (allowedTest present p) rest (b .1) in
+      cond-cases Allowed (eqb x k) (λ e. info-allowed x d (c .0)) (λ e. found-allowed ts k (suc x) ks ds (c .1))
 
   module _ (ts : List Track) (ks ds : List ℕ) (h : pointsTest present ts 0 ks ds ≡ true) (k : ℕ) where
     -- an info that is found, or 0, keeps its rule
     pub found-rule : InfoRule (infoAt k ks ds)
-    found-rule = found-able ts k 0 ks ds h .0
+    found-rule = found-allowed ts k 0 ks ds h .0
 
     -- and its target is present, if it has a command
     pub found-target : (commandOf (infoAt k ks ds) ≡ 0 → ⊥) → isPresent present (targetOf (infoAt k ks ds)) ≡ true
-    found-target = found-able ts k 0 ks ds h .1
+    found-target = found-allowed ts k 0 ks ds h .1
 
 -- ---- the rules that the commands rely on
 

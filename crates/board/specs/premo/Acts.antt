@@ -25,7 +25,7 @@ use Rattle.board.specs.declared.call.Call.the-variants as call
 use Rattle.board.specs.Cut.{crossed, Part, run, one, part, performs}
 use Rattle.board.specs.Replay.{World, w-halt, w-bar, w-step, perform}
 use Rattle.board.specs.Call.{Reply, accepted, refused, done, logFull, clockEnded, clockIs, trackIs, pointIs, countIs}
-use Rattle.board.specs.Call.{stoppedBy, saysOf, gridstep, most, countOf, advanceBy, world}
+use Rattle.board.specs.Call.{stoppedBy, saysOf, gridstep, most, runCount, advanceBy, world}
 use Rattle.board.specs.Lists.{cutUp}
 use Rattle.board.specs.Arrivals.{Arrival, arrivalsIn}
 use Rattle.board.specs.premo.Automaton.{Act, doPLAY, doPAUSE, doRESUME, doSTOP, doWAIT, donePlay, jump, exc}
@@ -166,4 +166,4 @@ endOf cs log = performs (perform gridstep) (cutUp cs) (world freshBoard log) .la
 
 -- <a> true: the call is act a of track i
 abbrev pub Brings : ℕ → Call → Act → World Board → Type 0
-Brings i c a w = callActs i (part most countOf advanceBy c) w ≡ a ∷ []
+Brings i c a w = callActs i (part most runCount advanceBy c) w ≡ a ∷ []

@@ -22,7 +22,7 @@ use Rattle.board.specs.declared.call.Call.{Call}
 use Rattle.board.specs.Row.{callOf, callAt}
 use Rattle.script.specs.Number.{numberOf}
 use Rattle.script.specs.Grammar.{aheadOf, numbersOf, fieldsOf, rowCall, fieldsCall, lineCall, upTo, behind, padded, paddedIn, rowOf}
-use Rattle.script.specs.Word.{codeOf, countOf}
+use Rattle.script.specs.Word.{codeOf, numbersAfter}
 use Rattle.script.proofs.grammar.Fields.{fields-first, behind-next, behind-end}
 
 -- numbers read, ahead of those of the fields left
@@ -156,7 +156,7 @@ call-read c ns h p0 p1 p2 p3 p4 p5 =
 
 -- the call of a text, from its first comma on
 pub text-call : (s : List ℕ) (first c k : ℕ) (r : Row) {o : Option Call} → first ≡ 0 + upTo 44 (drop 0 s) →
-    c ≡ codeOf (take (first - 0) (drop 0 s)) → k ≡ countOf c → rowOf r ≡ paddedIn (numbersOf k (behind (drop first s))) →
+    c ≡ codeOf (take (first - 0) (drop 0 s)) → k ≡ numbersAfter c → rowOf r ≡ paddedIn (numbersOf k (behind (drop first s))) →
     o ≡ rowCall c (rowOf r) → o ≡ fieldsCall (fieldsOf s)
 text-call s first c k r p q m e h =
     let u : first ≡ upTo 44 s = omega arith in
@@ -166,7 +166,7 @@ text-call s first c k r p q m e h =
     ∙ ap (rowCall c) e
     ∙ padded-call c (numbersOf k (behind (drop first s)))
     ∙ ap (λ (j : ℕ). rowCall c (numbersOf j (behind (drop first s)))) m
-    ∙ (λ i. rowCall (w i) (numbersOf (countOf (w i)) (behind (drop (u i) s))))
+    ∙ (λ i. rowCall (w i) (numbersOf (numbersAfter (w i)) (behind (drop (u i) s))))
     ∙ sym (ap fieldsCall (fields-first s))
 
 -- ---- a whole line

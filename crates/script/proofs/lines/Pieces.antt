@@ -9,7 +9,7 @@ use lib.ListN.{length, getD, drop, take, set, drop-of-length-le, length-append}
 use lib.Seq.{drop-cons, take-suc-set, length-take-le, take-all, take-append-le, append-snoc}
 use lib.Dec.{leb, eqb}
 use borrow.Author.Tests.{eq-eqb, ne-eqb, leb-true, leb-false}
-use Rattle.script.specs.Lines.{ahead, linesOf, numberAfter, numberBehind, kept, more, linesIn, openAfter, lastLine, linesOver, whole}
+use Rattle.script.specs.Lines.{ahead, linesOf, numberAfter, numberBehind, kept, more, linesIn, openAfter, lastLine, linesOver, joinedPieces}
 
 -- ---- a byte
 
@@ -153,17 +153,17 @@ lines-from p (b ∷ s) = go (eqb b 10) (lines-from [] s) (lines-from (p ++ (b �
 pub lines-are : (s : List ℕ) → kept (linesOf s) ≡ linesIn [] s ++ lastLine (openAfter [] s)
 lines-are s = ap kept (sym (joined-none (linesOf s))) ∙ lines-from [] s
 
--- pieces, read one after the other, have the lines of the whole
-pieces-are : (k : List ℕ) (ps : List (List ℕ)) → linesOver k ps ≡ linesIn k (whole ps) ++ lastLine (openAfter k (whole ps))
+-- pieces, read one after the other, have the lines of the joinedPieces
+pieces-are : (k : List ℕ) (ps : List (List ℕ)) → linesOver k ps ≡ linesIn k (joinedPieces ps) ++ lastLine (openAfter k (joinedPieces ps))
 unfolding linesIn openAfter
 pieces-are k [] = refl
 pieces-are k (p ∷ ps) =
-    let q = whole ps in
+    let q = joinedPieces ps in
     ap (λ (x : List (List ℕ)). linesIn k p ++ x) (pieces-are (openAfter k p) ps)
     ∙ sym (append-assoc (linesIn k p) (linesIn (openAfter k p) q) (lastLine (openAfter (openAfter k p) q)))
     ∙ ap (λ (x : List (List ℕ)). x ++ lastLine (openAfter (openAfter k p) q)) (sym (in-append k p q))
     ∙ ap (λ (x : List ℕ). linesIn k (p ++ q) ++ lastLine x) (sym (after-append k p q))
 
--- however the input is cut, its lines are those of the whole
-pub lines-cut : (ps : List (List ℕ)) → linesOver [] ps ≡ kept (linesOf (whole ps))
-lines-cut ps = pieces-are [] ps ∙ sym (lines-are (whole ps))
+-- however the input is cut, its lines are those of the joinedPieces
+pub lines-cut : (ps : List (List ℕ)) → linesOver [] ps ≡ kept (linesOf (joinedPieces ps))
+lines-cut ps = pieces-are [] ps ∙ sym (lines-are (joinedPieces ps))

@@ -10,7 +10,7 @@ use lib.ListN.{length, getD, drop, drop-of-length-le, List·getD-map}
 use lib.Seq.{drop-cons}
 use lib.Dec.{T, leb, ltb, eqb, ltb→lt, leb→le}
 use borrow.Author.Tests.{eq-eqb, eqb-true, lt-ltb, le-ltb, ltb-true}
-use Rattle.script.specs.Word.{Form, forms, noForm, same, codeFrom, countOf, packed, packedOr0, packedAt, wordEnd}
+use Rattle.script.specs.Word.{Form, forms, noForm, same, codeFrom, numbersAfter, packed, packedOr0, packedAt, wordEnd}
 
 pub getD-map-below : {A B : Type 0} (f : A → B) (l : List A) (k : ℕ) (d : A) (e : B) → k < length l → getD (map f l) k e ≡ f (getD l k d)
 getD-map-below f [] k d e h = absurd (not-suc-le-zero h)
@@ -190,6 +190,6 @@ at-most [] h k = omega arith
 at-most (n ∷ l) h zero = leb→le n 6 (both (leb n 6) (every (λ n. leb n 6) l) h .0)
 at-most (n ∷ l) h (suc k) = at-most l (both (leb n 6) (every (λ n. leb n 6) l) h .1) k
 
-pub count-at : (c : ℕ) → (getD counts c 0 ≡ countOf c) × (getD counts c 0 ≤ 6)
+pub count-at : (c : ℕ) → (getD counts c 0 ≡ numbersAfter c) × (getD counts c 0 ≤ 6)
 unfolding forms every
 count-at c = (List·getD-map (λ (f : Form). f .count) (noForm ∷ forms) c noForm, at-most counts tt c)

@@ -4,11 +4,11 @@ use Rattle.board.proofs.Board.set_point.Statement.{statement}
 use Rattle.board.proofs.Board.set_point.Tie as tie
 use Rattle.board.proofs.rules.Broken.{unbroken-of, present-small}
 use Rattle.board.proofs.rules.Present.{found-in, target-below}
-use Rattle.board.proofs.setup.Guards.{drawn-rule, points-refused, points-put, drawn-bad, drawn-good, drawn-told}
+use Rattle.board.proofs.setup.Guards.{described-rule, points-refused, points-put, described-bad, described-good, described-told}
 use Rattle.board.specs.Board.{foundIn, unbrokenTest, Unbroken, PointRule, trackAt}
-use Rattle.board.specs.Setup.{drawnFrom, setPoint}
+use Rattle.board.specs.Setup.{describedBy, setPoint}
 use Rattle.board.specs.Points.{storedIn, trackCount}
-use Rattle.board.specs.declared.setup.Drawn.the-variants.{Good}
+use Rattle.board.specs.declared.setup.Described.the-variants.{Good}
 use Rattle.track.proofs.Numbers.{told, natural-out, natural-take}
 use Rattle.track.proofs.Tests.{cond-yes, cond-no}
 use Rattle.track.specs.declared.number.Natural.the-variants.{In}
@@ -40,18 +40,18 @@ small c = present-small _ _ (found-in _ _ (number c))
 abbrev entry : tie.After-p → tie.After-i
 entry c = c .before .before .before .before .before .before .before
 
--- the point that is drawn
+-- the point that is described
 point : (c : tie.After-p) →
     let s = start (entry c .before .before .before) .args in
     let i = entry c .i .given .0 .0 in
-    drawnFrom (s .t1 .present) i (trackAt (s .t1 .tracks) i) (s .position) (s .event) (s .wait) (s .command) (s .target) ≡ Good (c .p .given .0 .0)
+    describedBy (s .t1 .present) i (trackAt (s .t1 .tracks) i) (s .position) (s .event) (s .wait) (s .command) (s .target) ≡ Good (c .p .given .0 .0)
 point c =
     let s = start (entry c .before .before .before) .fits in
-    drawn-told _ _ _ (s .position) (s .event) (s .wait) (s .command) (s .target) (c .before .before .draw .ensures) (c .p .given .1)
+    described-told _ _ _ (s .position) (s .event) (s .wait) (s .command) (s .target) (c .before .before .describe .ensures) (c .p .given .1)
 
 -- it keeps the rules of a point
 ruled : (c : tie.After-p) → PointRule (start (entry c .before .before .before) .args .t1 .present) (start (entry c .before .before .before) .args .t1 .tracks) (c .p .given .0 .0)
-ruled c = drawn-rule _ _ _ _ _ _ _ _ (found-in _ _ (number (entry c))) (point c)
+ruled c = described-rule _ _ _ _ _ _ _ _ (found-in _ _ (number (entry c))) (point c)
 
 high : (c : tie.After-p) → c .p .given .0 .0 .position .0 ≤ 2000000
 high c =
@@ -105,11 +105,11 @@ returns-3 : tie.Need-returns-3
 unfolding setPoint
 returns-3 c = set-point-leaves _ _ _ _ _ _ _ (cond-yes _ _ (whole (c .before .before .before .before .before .before .before .before)) (natural-take _ _ _ (number (c .before .before .before .before .before)) (cond-no _ _ (sym (c .before .before .settled .ensures) ∙ not-true _ (c .before .if2 .taken)) (c .refused3 .ensures))))
 
-cast-draw : tie.Need-cast-draw
-cast-draw c = record { fits = (let l = small (c .before .before .before .before) in omega arith) }
+cast-describe : tie.Need-cast-describe
+cast-describe c = record { fits = (let l = small (c .before .before .before .before) in omega arith) }
 
-draw-requires : tie.Need-draw-requires
-draw-requires c κs = search needs
+describe-requires : tie.Need-describe-requires
+describe-requires c κs = search needs
 
 enum-known-p : tie.Need-enum-known-p
 enum-known-p c = search needs
@@ -125,8 +125,8 @@ unfolding setPoint
 returns-4 c =
     let f = c .before .before .before .before .before .before .before .before .before .before .before .before .before .before .before .before .before .before .before .before .fits in
     set-point-leaves _ _ _ _ _ _ _ (cond-yes _ _ (whole (c .before .before .before .before .before .before .before .before .before .before .before)) (natural-take _ _ _ (number (c .before .before .before .before .before .before .before .before)) (cond-yes _ _ (sym (c .before .before .before .before .before .settled .ensures) ∙ not-false _ (c .before .before .before .before .if2 .left))
-    (drawn-bad (c .before .before .before .before .before .before .before .before .before .before .before .before .before .before .before .before .before .before .before .before .args .t1)
-    (drawn-told _ _ _ (f .position) (f .event) (f .wait) (f .command) (f .target) (c .before .before .before .draw .ensures) (c .before .enum-told2 .given .1)) (c .refused4 .ensures)))))
+    (described-bad (c .before .before .before .before .before .before .before .before .before .before .before .before .before .before .before .before .before .before .before .before .args .t1)
+    (described-told _ _ _ (f .position) (f .event) (f .wait) (f .command) (f .target) (c .before .before .before .describe .ensures) (c .before .enum-told2 .given .1)) (c .refused4 .ensures)))))
 
 key-requires : tie.Need-key-requires
 key-requires c κs = (present-small _ _ (ruled (c .before .before) .track), high (c .before .before))
@@ -143,7 +143,7 @@ refused-requires-5 c κs = search needs
 returns-5 : tie.Need-returns-5
 unfolding setPoint
 returns-5 c = set-point-leaves _ _ _ _ _ _ _ (cond-yes _ _ (whole (c .before .before .before .before .before .before .before .before .before .before .before .before .before .before .before .before .before .before)) (natural-take _ _ _ (number (c .before .before .before .before .before .before .before .before .before .before .before .before .before .before .before)) (cond-yes _ _ (sym (c .before .before .before .before .before .before .before .before .before .before .before .before .settled .ensures) ∙ not-false _ (c .before .before .before .before .before .before .before .before .before .before .before .if2 .left))
-    (drawn-good (c .before .before .before .before .before .before .before .before .before .before .before .before .before .before .before .before .before .before .before .before .before .before .before .before .before .before .before .args .t1) (point (c .before .before .before .before .before .before .before .before))
+    (described-good (c .before .before .before .before .before .before .before .before .before .before .before .before .before .before .before .before .before .before .before .before .before .before .before .before .before .before .before .args .t1) (point (c .before .before .before .before .before .before .before .before))
     (points-refused (c .before .before .before .before .before .before .before .before .before .before .before .before .before .before .before .before .before .before .before .before .before .before .before .before .before .before .before .args .t1) 5 (c .before .before .before .stored .ensures ∙ ap₂ (storedIn (c .before .before .before .before .before .before .before .before .before .before .before .before .before .before .before .before .before .before .before .before .before .before .before .before .before .before .before .args .t1 .points)) (c .before .before .before .before .before .key .ensures) (c .before .before .before .before .info .ensures)) (not-true _ (c .before .if3 .taken)) (c .refused5 .ensures))))))
 
 accepted-requires : tie.Need-accepted-requires
@@ -152,7 +152,7 @@ accepted-requires c κs = search needs
 returns-6 : tie.Need-returns-6
 unfolding setPoint
 returns-6 c = set-point-leaves _ _ _ _ _ _ _ (cond-yes _ _ (whole (c .before .before .before .before .before .before .before .before .before .before .before .before .before .before .before .before .before .before .before)) (natural-take _ _ _ (number (c .before .before .before .before .before .before .before .before .before .before .before .before .before .before .before .before)) (cond-yes _ _ (sym (c .before .before .before .before .before .before .before .before .before .before .before .before .before .settled .ensures) ∙ not-false _ (c .before .before .before .before .before .before .before .before .before .before .before .before .if2 .left))
-    (drawn-good (c .before .before .before .before .before .before .before .before .before .before .before .before .before .before .before .before .before .before .before .before .before .before .before .before .before .before .before .before .args .t1) (point (c .before .before .before .before .before .before .before .before .before))
+    (described-good (c .before .before .before .before .before .before .before .before .before .before .before .before .before .before .before .before .before .before .before .before .before .before .before .before .before .before .before .before .args .t1) (point (c .before .before .before .before .before .before .before .before .before))
     (points-put (c .before .before .before .before .before .before .before .before .before .before .before .before .before .before .before .before .before .before .before .before .before .before .before .before .before .before .before .before .args .t1) 5 (c .before .before .before .before .stored .ensures ∙ ap₂ (storedIn (c .before .before .before .before .before .before .before .before .before .before .before .before .before .before .before .before .before .before .before .before .before .before .before .before .before .before .before .before .args .t1 .points)) (c .before .before .before .before .before .before .key .ensures) (c .before .before .before .before .before .info .ensures)) (not-false _ (c .before .before .if3 .left)) (c .accepted .ensures))))))
 
 pub set-point-spec : {M : Type 1} → statement M
@@ -173,8 +173,8 @@ set-point-spec =
     settled-requires
     refused-requires-3
     returns-3
-    cast-draw
-    draw-requires
+    cast-describe
+    describe-requires
     enum-known-p
     enum-told-2
     refused-requires-4

@@ -1,9 +1,9 @@
 use Prim.Native.Nat.{ℕ, _+_}
-use Rattle.board.proofs.advance.run.Proof.Standing.{Inv-loop, μ-loop, Inv-ticks, μ-ticks, leapt-all, board, bits, shape, start, whole, able, turn, fewer, leapt, ahead, whole′, short, longest, walked, leap-at, entry, member, stepping, done, few, full}
+use Rattle.board.proofs.advance.run.Proof.Standing.{Inv-loop, μ-loop, Inv-ticks, μ-ticks, leapt-all, board, bits, shape, start, whole, leapable, turn, fewer, leapt, ahead, whole′, short, longest, walked, leap-at, entry, member, stepping, done, few, full}
 use Rattle.board.proofs.advance.Cost.{leap-less, walk-less}
 use Rattle.board.proofs.advance.Advancing.{going-start, going-ends, going-done, boardAt, whole-points}
-use Rattle.board.proofs.quiet.Leaps.{unbroken-able, unbroken-telling}
-use Rattle.board.proofs.advance.Turning.{turning-start, turning-able, turning-step, turning-over, turning-rule}
+use Rattle.board.proofs.quiet.Leaps.{unbroken-leapable, unbroken-infos}
+use Rattle.board.proofs.advance.Turning.{turning-start, turning-leapable, turning-step, turning-over, turning-rule}
 use Rattle.board.proofs.tick.Steps.{found-rule}
 use Rattle.board.proofs.advance.run.Statement.{statement}
 use Rattle.board.proofs.advance.run.Tie as tie
@@ -39,15 +39,15 @@ quiet-requires c κs =
     let t = c .before .before .before in
     let u = whole t in
     let s = u .shape in (
-      able t,
-      ((omega (arith, u .count, s .keys), omega (arith, u .count, s .infos)), (u .order, unbroken-telling _ u)),
+      leapable t,
+      ((omega (arith, u .count, s .keys), omega (arith, u .count, s .infos)), (u .order, unbroken-infos _ u)),
     )
 
 smaller-requires-2 : tie.Need-smaller-requires-2 Inv-loop μ-loop Inv-ticks μ-ticks
 smaller-requires-2 c κs = search needs
 
 leapt-requires : tie.Need-leapt-requires Inv-loop μ-loop Inv-ticks μ-ticks
-leapt-requires c κs = (able (turn (c .before)), omega (arith, c .before .before .smaller .ensures))
+leapt-requires c κs = (leapable (turn (c .before)), omega (arith, c .before .before .smaller .ensures))
 
 add-clock : tie.Need-add-clock Inv-loop μ-loop Inv-ticks μ-ticks
 add-clock c = omega (arith, c .before .before .before .smaller .ensures, whole (c .before .before .before .before .before) .clock)
@@ -78,7 +78,7 @@ leapt-requires-2 : tie.Need-leapt-requires-2 Inv-loop μ-loop Inv-ticks μ-ticks
 leapt-requires-2 c κs =
     let j = c .before .before in
     let f = fewer j in
-    (able (turn j), omega (arith, j .before .smaller .ensures))
+    (leapable (turn j), omega (arith, j .before .smaller .ensures))
 
 add-clock-2 : tie.Need-add-clock-2 Inv-loop μ-loop Inv-ticks μ-ticks
 add-clock-2 c =
@@ -96,7 +96,7 @@ loop-holds : tie.Need-loop-holds Inv-loop μ-loop Inv-ticks μ-ticks
 loop-holds c =
     let j = c .before .before .before in
     let k = turn j .before .ticks in
-    turning-start _ _ _ _ _ _ _ (k .inv .1) (k .inv .0 .tracks-long) (able (turn j)) (unbroken-able _ (whole′ j)) (λ i h. whole′ j .tracks i h .valid) (k .inv .2) (k .inv .3)
+    turning-start _ _ _ _ _ _ _ (k .inv .1) (k .inv .0 .tracks-long) (leapable (turn j)) (unbroken-leapable _ (whole′ j)) (λ i h. whole′ j .tracks i h .valid) (k .inv .2) (k .inv .3)
 
 cast-i : tie.Need-cast-i Inv-loop μ-loop Inv-ticks μ-ticks
 cast-i c = record { fits = (let l = member c .inside in omega arith) }
@@ -111,7 +111,7 @@ leap-requires : tie.Need-leap-requires Inv-loop μ-loop Inv-ticks μ-ticks
 leap-requires c κs =
     let i = c .before in
     let j = c .before .before .before .before .before .before in
-    let a = turning-able _ _ _ _ _ _ _ _ _ _ _ _ _ (i .before .loop .inv) (i .loop-test .taken) in
+    let a = turning-leapable _ _ _ _ _ _ _ _ _ _ _ _ _ (i .before .loop .inv) (i .loop-test .taken) in
     let f = fewer j in
     (a .valid, (a .passes, omega (arith, j .before .smaller .ensures)))
 
@@ -179,8 +179,8 @@ note-requires c κs =
     let v = c .before .before .before .before .before .before .before .before .before .before .before .loop .inv .steps in
     omega (arith, v .few-reached, v .reached-long, c .before .before .before .before .before .before .before .before .before .before .loop-test .taken)
 
-stirs-requires : tie.Need-stirs-requires Inv-loop μ-loop Inv-ticks μ-ticks
-stirs-requires c κs = search needs
+needs-more-requires : tie.Need-needs-more-requires Inv-loop μ-loop Inv-ticks μ-ticks
+needs-more-requires c κs = search needs
 
 cast-rest : tie.Need-cast-rest Inv-loop μ-loop Inv-ticks μ-ticks
 cast-rest c = record { fits = (let l = member (c .before .before .before .before .before .before .before .before .before .before .before .before .before .before) .inside in omega arith) }
@@ -199,11 +199,11 @@ loop-less c = search needs
 
 loop-again : tie.Need-loop-again Inv-loop μ-loop Inv-ticks μ-ticks
 loop-again c =
-    turning-step _ _ _ _ _ _ _ _ _ _ _ _ _ (c .before .before .before .before .before .before .before .before .before .before .before .before .before .before .before .loop .inv) (c .before .before .before .before .before .before .before .before .before .before .before .before .before .before .loop-test .taken) _ (whole-points (boardAt (board (entry (c .before .before .before .before .before .before .before .before .before .before .before .before .before .before .before .before .before))) (leapt (leap-at (c .before .before .before .before .before .before .before .before .before .before .before .before .before .before .before .before .before))) (turn (leap-at (c .before .before .before .before .before .before .before .before .before .before .before .before .before .before .before .before .before)) .before .ticks .clock + leap-at (c .before .before .before .before .before .before .before .before .before .before .before .before .before .before .before .before .before) .if2 .calm) (turn (leap-at (c .before .before .before .before .before .before .before .before .before .before .before .before .before .before .before .before .before)) .before .ticks .held)) (ahead (leap-at (c .before .before .before .before .before .before .before .before .before .before .before .before .before .before .before .before .before)) .whole))
+    turning-step _ _ _ _ _ _ _ _ _ _ _ _ _ (c .before .before .before .before .before .before .before .before .before .before .before .before .before .before .before .loop .inv) (c .before .before .before .before .before .before .before .before .before .before .before .before .before .before .loop-test .taken) _ (whole-points (boardAt (board (entry (c .before .before .before .before .before .before .before .before .before .before .before .before .before .before .before .before .before))) (leapt (leap-at (c .before .before .before .before .before .before .before .before .before .before .before .before .before .before .before .before .before))) (turn (leap-at (c .before .before .before .before .before .before .before .before .before .before .before .before .before .before .before .before .before)) .before .ticks .clock + leap-at (c .before .before .before .before .before .before .before .before .before .before .before .before .before .before .before .before .before) .if2 .skipped) (turn (leap-at (c .before .before .before .before .before .before .before .before .before .before .before .before .before .before .before .before .before)) .before .ticks .held)) (ahead (leap-at (c .before .before .before .before .before .before .before .before .before .before .before .before .before .before .before .before .before)) .whole))
     (c .before .before .before .before .before .before .before .before .before .before .before .before .leap .ensures)
     (c .before .before .before .before .before .before .before .before .before .info-at .ensures ∙ ap (λ (l : ℕ). infoAt (key (trailingZeros 16 (c .before .before .before .before .before .before .before .before .before .before .before .before .before .before .before .loop .rest)) l) (keysOf (board (entry (c .before .before .before .before .before .before .before .before .before .before .before .before .before .before .before .before .before)) .points)) (infosOf (board (entry (c .before .before .before .before .before .before .before .before .before .before .before .before .before .before .before .before .before)) .points))) (c .before .before .before .before .before .before .before .before .before .before .before .arrival .ensures))
     (ap (λ (x : Staged). x .track) (c .before .before .before .before .before .before .before .step-member .ensures .0)) (ap (λ (x : Staged). x .count) (c .before .before .before .before .before .before .before .step-member .ensures .0)) (c .before .before .before .before .before .before .before .step-member .ensures .1)
-    (c .before .before .before .note .ensures .0) (c .before .before .before .note .ensures .1 .0) (c .before .before .before .note .ensures .1 .1) (c .before .stirs .ensures)
+    (c .before .before .before .note .ensures .0) (c .before .before .before .note .ensures .1 .0) (c .before .before .before .note .ensures .1 .1) (c .before .needs-more .ensures)
 
 add-t74 : tie.Need-add-t74 Inv-loop μ-loop Inv-ticks μ-ticks
 add-t74 c =
@@ -259,8 +259,8 @@ ticks-less-2 c =
     let d = done (c .before .before .before .before .before .before .before) in
     let n = short (c .before .before .before .before .before .before .before .before .before .before .before .before) in
     let e = j .before .smaller .ensures in
-    walk-less _ _ _ (k .inv .0) (walked c) (turn j .ticks-test .taken) (omega (arith, j .before .before .if1 .left, whole (turn j) .clock)) (j .if2 .calm)
-    (unbroken-able _ (whole (turn j))) (unbroken-telling _ (whole (turn j))) (k .look) refl (d .tracks) (d .count) (omega arith)
+    walk-less _ _ _ (k .inv .0) (walked c) (turn j .ticks-test .taken) (omega (arith, j .before .before .if1 .left, whole (turn j) .clock)) (j .if2 .skipped)
+    (unbroken-leapable _ (whole (turn j))) (unbroken-infos _ (whole (turn j))) (k .look) refl (d .tracks) (d .count) (omega arith)
     (longest (c .before .before .before .before .before .before .before .before .before .before .before .before))
 
 ticks-again-2 : tie.Need-ticks-again-2 Inv-loop μ-loop Inv-ticks μ-ticks
@@ -285,11 +285,11 @@ same-length-3 c = c .before .before .before .before .before .before .before .bef
 
 returns-3 : tie.Need-returns-3 Inv-loop μ-loop Inv-ticks μ-ticks
 returns-3 c =
-    let v = turning-step _ _ _ _ _ _ _ _ _ _ _ _ _ (c .before .before .before .before .before .before .before .before .before .before .before .before .before .before .before .loop .inv) (c .before .before .before .before .before .before .before .before .before .before .before .before .before .before .loop-test .taken) _ (whole-points (boardAt (board (entry (c .before .before .before .before .before .before .before .before .before .before .before .before .before .before .before .before .before))) (leapt (leap-at (c .before .before .before .before .before .before .before .before .before .before .before .before .before .before .before .before .before))) (turn (leap-at (c .before .before .before .before .before .before .before .before .before .before .before .before .before .before .before .before .before)) .before .ticks .clock + leap-at (c .before .before .before .before .before .before .before .before .before .before .before .before .before .before .before .before .before) .if2 .calm) (turn (leap-at (c .before .before .before .before .before .before .before .before .before .before .before .before .before .before .before .before .before)) .before .ticks .held)) (ahead (leap-at (c .before .before .before .before .before .before .before .before .before .before .before .before .before .before .before .before .before)) .whole))
+    let v = turning-step _ _ _ _ _ _ _ _ _ _ _ _ _ (c .before .before .before .before .before .before .before .before .before .before .before .before .before .before .before .loop .inv) (c .before .before .before .before .before .before .before .before .before .before .before .before .before .before .loop-test .taken) _ (whole-points (boardAt (board (entry (c .before .before .before .before .before .before .before .before .before .before .before .before .before .before .before .before .before))) (leapt (leap-at (c .before .before .before .before .before .before .before .before .before .before .before .before .before .before .before .before .before))) (turn (leap-at (c .before .before .before .before .before .before .before .before .before .before .before .before .before .before .before .before .before)) .before .ticks .clock + leap-at (c .before .before .before .before .before .before .before .before .before .before .before .before .before .before .before .before .before) .if2 .skipped) (turn (leap-at (c .before .before .before .before .before .before .before .before .before .before .before .before .before .before .before .before .before)) .before .ticks .held)) (ahead (leap-at (c .before .before .before .before .before .before .before .before .before .before .before .before .before .before .before .before .before)) .whole))
     (c .before .before .before .before .before .before .before .before .before .before .before .before .leap .ensures)
     (c .before .before .before .before .before .before .before .before .before .info-at .ensures ∙ ap (λ (l : ℕ). infoAt (key (trailingZeros 16 (c .before .before .before .before .before .before .before .before .before .before .before .before .before .before .before .loop .rest)) l) (keysOf (board (entry (c .before .before .before .before .before .before .before .before .before .before .before .before .before .before .before .before .before)) .points)) (infosOf (board (entry (c .before .before .before .before .before .before .before .before .before .before .before .before .before .before .before .before .before)) .points))) (c .before .before .before .before .before .before .before .before .before .before .before .arrival .ensures))
     (ap (λ (x : Staged). x .track) (c .before .before .before .before .before .before .before .step-member .ensures .0)) (ap (λ (x : Staged). x .count) (c .before .before .before .before .before .before .before .step-member .ensures .0)) (c .before .before .before .before .before .before .before .step-member .ensures .1)
-    (c .before .before .before .note .ensures .0) (c .before .before .before .note .ensures .1 .0) (c .before .before .before .note .ensures .1 .1) (c .before .stirs .ensures) in
+    (c .before .before .before .note .ensures .0) (c .before .before .before .note .ensures .1 .0) (c .before .before .before .note .ensures .1 .1) (c .before .needs-more .ensures) in
     let o = turning-over _ _ _ _ _ (c .before .before .before .before .before .before .before .before .before .before .before .before .before .before .before .before .before .before .before .before .before .before .before .ticks .inv .1) _ _ _ _ _ _ _ _ v in
     full (c .before .before .before .before .before .before .before .before .before .before .before .before .before .before .before .before .before) (omega (arith, c .if5 .taken, v .steps .few-records)) (omega (arith, c .if5 .taken))
 
@@ -343,7 +343,7 @@ run-spec =
     array-set-from-tracks
     slice-aggregate-note
     note-requires
-    stirs-requires
+    needs-more-requires
     cast-rest
     shl-rest
     sub-rest

@@ -1,6 +1,6 @@
 use Rattle.board.proofs.mode.pause.Statement.{statement}
 use Rattle.board.proofs.mode.pause.Tie as tie
-use Rattle.board.proofs.mode.Rulings.{pause-gives}
+use Rattle.board.proofs.mode.Results.{pause-gives}
 use borrow.Author.Needs.{needs}
 use mir.Facts.{toZ-ofZ}
 

@@ -1,6 +1,6 @@
 use Rattle.board.proofs.mode.resume.Statement.{statement}
 use Rattle.board.proofs.mode.resume.Tie as tie
-use Rattle.board.proofs.mode.Rulings.{resume-gives}
+use Rattle.board.proofs.mode.Results.{resume-gives}
 use borrow.Author.Needs.{needs}
 use mir.Facts.{toZ-ofZ}
 

@@ -1,6 +1,6 @@
 use Rattle.board.proofs.mode.stop.Statement.{statement}
 use Rattle.board.proofs.mode.stop.Tie as tie
-use Rattle.board.proofs.mode.Rulings.{stop-gives}
+use Rattle.board.proofs.mode.Results.{stop-gives}
 use borrow.Author.Needs.{needs}
 use mir.Facts.{toZ-ofZ}
 

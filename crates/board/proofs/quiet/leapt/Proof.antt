@@ -1,6 +1,6 @@
 use Prim.Native.Nat.{_<_}
 use Rattle.board.proofs.tick.Bits.{Lowest, lowest, no-members}
-use Rattle.board.proofs.quiet.Turns.{able-next, leap-next, leap-end}
+use Rattle.board.proofs.quiet.Turns.{leapable-next, leap-next, leap-end}
 use Rattle.board.proofs.quiet.leapt.Statement.{statement}
 use Rattle.board.proofs.quiet.leapt.Tie as tie
 use Rattle.board.specs.Quiet.{Leapable, leapInto}
@@ -39,7 +39,7 @@ array-copy-out-t c = let l = low c in omega arith
 leap-requires : tie.Need-leap-requires Inv-loop μ-loop
 leap-requires c κs =
     let l = low (c .before) in
-    let f = able-next (c .before .before .before .args .t1) _ _ _ (l .rest) (c .before .before .loop .inv .1) .0 in
+    let f = leapable-next (c .before .before .before .args .t1) _ _ _ (l .rest) (c .before .before .loop .inv .1) .0 in
     (f .valid, (f .passes, c .before .before .before .pre .1))
 
 mul-next : tie.Need-mul-next Inv-loop μ-loop
@@ -65,7 +65,7 @@ loop-again c =
     let l = low (c .before .before) in
     let b = c .before .before .before .loop .inv in (
       l .fits,
-      able-next (c .before .before .before .before .args .t1) _ _ _ (l .rest) (b .1) .1,
+      leapable-next (c .before .before .before .before .args .t1) _ _ _ (l .rest) (b .1) .1,
       leap-next _ _ _ _ (l .rest) _ (c .before .before .before .loop .next) (c .leap .ensures) ∙ b .2,
       length-set (c .before .before .before .loop .next) _ (c .leap .result) ∙ b .3,
     )

@@ -1,6 +1,6 @@
 use Prim.Native.Nat.{ℕ, _≤_, _<_}
 use Rattle.board.proofs.tick.Bits.{Lowest, lowest, no-members}
-use Rattle.board.proofs.quiet.Turns.{able-next, fewest-next, fewest-end}
+use Rattle.board.proofs.quiet.Turns.{leapable-next, fewest-next, fewest-end}
 use Rattle.board.proofs.quiet.quiet.Statement.{statement}
 use Rattle.board.proofs.quiet.quiet.Tie as tie
 use Rattle.board.specs.Quiet.{Leapable, Fewest}
@@ -42,7 +42,7 @@ quiet-steps-requires : tie.Need-quiet-steps-requires Inv-loop μ-loop
 quiet-steps-requires c κs =
     let l = low (c .before) in
     let s = c .before .before .before .before .before in
-    (able-next (c .before .before .before .before .before .args .t1) _ _ _ (l .rest) (c .before .before .loop .inv .1) .0 .valid, (l .inside, s .pre .1))
+    (leapable-next (c .before .before .before .before .before .args .t1) _ _ _ (l .rest) (c .before .before .loop .inv .1) .0 .valid, (l .inside, s .pre .1))
 
 smaller-requires : tie.Need-smaller-requires Inv-loop μ-loop
 smaller-requires c κs = search needs
@@ -65,7 +65,7 @@ loop-again c =
     let s = c .smaller .ensures in
     let b = c .before .before .before .before .loop .inv in (
       l .fits,
-      able-next (c .before .before .before .before .before .before .before .args .t1) _ _ _ (l .rest) (b .1) .1,
+      leapable-next (c .before .before .before .before .before .before .before .args .t1) _ _ _ (l .rest) (b .1) .1,
       omega arith,
       λ r h. b .3 r (fewest-next _ _ _ _ (l .rest) _ _ _ r (b .2) (c .before .quiet-steps .ensures) s h),
     )

@@ -1,5 +1,5 @@
 use Prim.Native.Nat.{_≤_, _-_, _+_}
-use Rattle.board.proofs.rules.Passing.{row-next, row-end, points-low, points-place, points-deed, points-track, points-target, points-next, points-end, length-mapped}
+use Rattle.board.proofs.rules.Passing.{row-next, row-end, points-low, points-place, points-allowed, points-track, points-target, points-next, points-end, length-mapped}
 use Rattle.board.proofs.rules.points_kept.Statement.{statement}
 use Rattle.board.proofs.rules.points_kept.Tie as tie
 use Rattle.board.specs.Board.{pointsTest}
@@ -79,11 +79,11 @@ placed-requires c κs = search needs
 returns-4 : tie.Need-returns-4 Inv-loop μ-loop
 returns-4 c = points-place _ _ _ _ _ _ _ (c .before .before .before .of .ensures) (c .before .placed .ensures) (not-true _ (c .if4 .taken)) ∙ rows (c .before .before .before .before .before .before .before .before .before)
 
-able-requires : tie.Need-able-requires Inv-loop μ-loop
-able-requires c κs = search needs
+allowed-requires : tie.Need-allowed-requires Inv-loop μ-loop
+allowed-requires c κs = search needs
 
 returns-5 : tie.Need-returns-5 Inv-loop μ-loop
-returns-5 c = points-deed _ _ _ _ _ _ _ (c .before .before .before .before .before .of .ensures) (c .before .before .before .placed .ensures) (c .before .able .ensures) (not-true _ (c .if5 .taken)) ∙ rows (c .before .before .before .before .before .before .before .before .before .before .before)
+returns-5 c = points-allowed _ _ _ _ _ _ _ (c .before .before .before .before .before .of .ensures) (c .before .before .before .placed .ensures) (c .before .allowed .ensures) (not-true _ (c .if5 .taken)) ∙ rows (c .before .before .before .before .before .before .before .before .before .before .before)
 
 add-low : tie.Need-add-low Inv-loop μ-loop
 add-low c = search needs
@@ -95,7 +95,7 @@ loop-less : tie.Need-loop-less Inv-loop μ-loop
 loop-less c = search needs
 
 loop-again : tie.Need-loop-again Inv-loop μ-loop
-loop-again c = (search needs, points-next _ _ _ _ _ _ _ (c .before .before .before .before .before .of .ensures) (c .before .before .before .placed .ensures) (c .before .able .ensures) (c .before .before .before .before .before .before .before .before .if1 .left) (not-false _ (c .before .before .if4 .left)) (not-false _ (c .if5 .left)) ∙ rows (c .before .before .before .before .before .before .before .before .before .before .before))
+loop-again c = (search needs, points-next _ _ _ _ _ _ _ (c .before .before .before .before .before .of .ensures) (c .before .before .before .placed .ensures) (c .before .allowed .ensures) (c .before .before .before .before .before .before .before .before .if1 .left) (not-false _ (c .before .before .if4 .left)) (not-false _ (c .if5 .left)) ∙ rows (c .before .before .before .before .before .before .before .before .before .before .before))
 
 returns-6 : tie.Need-returns-6 Inv-loop μ-loop
 returns-6 c =
@@ -126,7 +126,7 @@ points-kept-spec =
     array-copy-out-owner
     placed-requires
     returns-4
-    able-requires
+    allowed-requires
     returns-5
     add-low
     add-i

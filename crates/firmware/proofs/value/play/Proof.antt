@@ -1,6 +1,6 @@
 use Rattle.firmware.proofs.value.play.Statement.{statement}
 use Rattle.firmware.proofs.value.play.Tie as tie
-use Rattle.board.proofs.mode.Rulings.{play-gives}
+use Rattle.board.proofs.mode.Results.{play-gives}
 use borrow.Author.Needs.{needs}
 use mir.Facts.{toZ-ofZ}
 

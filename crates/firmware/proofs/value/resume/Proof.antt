@@ -1,6 +1,6 @@
 use Rattle.firmware.proofs.value.resume.Statement.{statement}
 use Rattle.firmware.proofs.value.resume.Tie as tie
-use Rattle.board.proofs.mode.Rulings.{resume-gives}
+use Rattle.board.proofs.mode.Results.{resume-gives}
 use borrow.Author.Needs.{needs}
 use mir.Facts.{toZ-ofZ}
 

@@ -1,13 +1,13 @@
 -- Where the tick loop of `run` stands: its invariants, and what is known at its places.
 use Prim.Native.Nat.{ℕ, _+_, _-_, _*_, _≤_, _<_}
-use Rattle.board.proofs.advance.Advancing.{Going, going-full, going-leap, going-tick, boardAt, stageOf, go, calm-none, leap-is}
+use Rattle.board.proofs.advance.Advancing.{Going, going-full, going-leap, going-tick, boardAt, stageOf, go, quiet-none, leap-is}
 use Rattle.board.specs.Call.{world}
 use Rattle.board.specs.Advance.{Ended, turnsLeft}
 use Rattle.board.specs.declared.call.Advanced.the-variants.{Done, LogFull}
 use Rattle.board.proofs.tick.Bits.{Lowest}
 use Rattle.board.proofs.rules.Broken.{unbroken-of}
-use Rattle.board.proofs.quiet.Leaps.{unbroken-able, leap-tracks-word}
-use Rattle.board.proofs.advance.Turning.{Turning, turning-member, turning-leapt, turning-stirred, turning-still, Ticked}
+use Rattle.board.proofs.quiet.Leaps.{unbroken-leapable, leap-tracks-word}
+use Rattle.board.proofs.advance.Turning.{Turning, turning-member, turning-leapt, turning-more, turning-still, Ticked}
 use Rattle.board.proofs.tick.Steps.{tick-few, tick-long}
 use Rattle.board.proofs.tick.Staging.{length-log}
 use Rattle.board.proofs.log.Words.{length-write}
@@ -15,7 +15,7 @@ use Rattle.board.specs.Log.{writeAt, recordWidth, logBytes, capacity}
 use Rattle.board.proofs.advance.run.Tie as tie
 use Rattle.board.specs.Points.{keysOf, infosOf, trackCount}
 use Rattle.board.specs.Replay.{Each}
-use Rattle.board.specs.Quiet.{Calm, Fewest, Able, Leapable, leapTracks, leapInto}
+use Rattle.board.specs.Quiet.{QuietFor, Fewest, CanLeap, Leapable, leapTracks, leapInto}
 use Rattle.board.specs.declared.Board.{Board}
 use Rattle.board.specs.Board.{Unbroken, trackAt, boardOf, Shaped}
 use Rattle.board.specs.Tick.{Stage, playingWord, members, tickMost}
@@ -34,10 +34,10 @@ abbrev pub parts : ℕ → List ℕ → List ℕ → ℕ → Board
 parts present keys infos n = boardOf [] present keys infos n 0 0
 
 abbrev pub Inv-loop : tie.InvT-loop
-Inv-loop present keys infos n kept log slots wanted tracks₀ back word clock held taken look stage₀ reached₀ most calm room rest₀ left₀ staged₀ m₀ stirred₀ tracks stage reached rest left staged m stirred = Turning (parts present keys infos n) tracks₀ clock word calm stage reached tracks rest left staged m stirred
+Inv-loop present keys infos n kept log slots wanted tracks₀ back word clock held taken look stage₀ reached₀ most skipped room rest₀ left₀ staged₀ m₀ more₀ tracks stage reached rest left staged m more = Turning (parts present keys infos n) tracks₀ clock word skipped stage reached tracks rest left staged m more
 
 abbrev pub μ-loop : tie.MeasureT-loop
-μ-loop present keys infos n kept log slots wanted tracks₀ back word clock held taken look stage₀ reached₀ most calm room rest₀ left₀ staged₀ m₀ stirred₀ tracks stage reached rest left staged m stirred = left
+μ-loop present keys infos n kept log slots wanted tracks₀ back word clock held taken look stage₀ reached₀ most skipped room rest₀ left₀ staged₀ m₀ more₀ tracks stage reached rest left staged m more = left
 
 abbrev pub Inv-ticks : tie.InvT-ticks
 Inv-ticks present keys infos n kept log₀ slots wanted tracks₀ back₀ word₀ clock₀ held₀ taken₀ look₀ stage₀ reached₀ answer₀ log tracks back word clock held taken look stage reached answer =
@@ -72,43 +72,43 @@ pub whole : (c : tie.In-ticks Inv-loop μ-loop Inv-ticks μ-ticks) → Unbroken 
 whole c = unbroken-of _ (c .before .ticks .inv .0 .whole)
 
 -- the playing tracks can be leapt
-pub able : (c : tie.In-ticks Inv-loop μ-loop Inv-ticks μ-ticks) → Leapable (c .before .ticks .tracks) (members (c .before .ticks .word))
-able c =
-    subst (λ (w : ℕ). Leapable (c .before .ticks .tracks) (members w)) (sym (c .before .ticks .inv .1)) (unbroken-able _ (whole c))
+pub leapable : (c : tie.In-ticks Inv-loop μ-loop Inv-ticks μ-ticks) → Leapable (c .before .ticks .tracks) (members (c .before .ticks .word))
+leapable c =
+    subst (λ (w : ℕ). Leapable (c .before .ticks .tracks) (members w)) (sym (c .before .ticks .inv .1)) (unbroken-leapable _ (whole c))
 
 abbrev pub turn : tie.Joined2 Inv-loop μ-loop Inv-ticks μ-ticks → tie.In-ticks Inv-loop μ-loop Inv-ticks μ-ticks
 turn c = c .before .before .before
 
 -- the ticks leapt are quiet, and no more than are left
-pub quiets : (c : tie.Joined2 Inv-loop μ-loop Inv-ticks μ-ticks) → (r : ℕ) × (c .if2 .calm ≤ r)
-    × Each (λ i. Calm (keysOf (board (start (turn c)) .points)) r i (trackAt (turn c .before .ticks .tracks) i)) (members (turn c .before .ticks .word))
+pub quiets : (c : tie.Joined2 Inv-loop μ-loop Inv-ticks μ-ticks) → (r : ℕ) × (c .if2 .skipped ≤ r)
+    × Each (λ i. QuietFor (keysOf (board (start (turn c)) .points)) r i (trackAt (turn c .before .ticks .tracks) i)) (members (turn c .before .ticks .word))
 quiets c =
     ⊎-elim (λ w. (w .1 .result .0, omega (arith, w .2 .ensures, w .3), w .1 .ensures .quiet))
-    (λ w. (0, omega (arith, w .1), calm-none _ (turn c .before .ticks .tracks) (members (turn c .before .ticks .word)))) (c .if2 .came)
+    (λ w. (0, omega (arith, w .1), quiet-none _ (turn c .before .ticks .tracks) (members (turn c .before .ticks .word)))) (c .if2 .came)
 
-pub fewer : (c : tie.Joined2 Inv-loop μ-loop Inv-ticks μ-ticks) → c .if2 .calm ≤ c .before .smaller .result
+pub fewer : (c : tie.Joined2 Inv-loop μ-loop Inv-ticks μ-ticks) → c .if2 .skipped ≤ c .before .smaller .result
 fewer c = ⊎-elim (λ w. omega (arith, w .2 .ensures, w .3)) (λ w. omega (arith, w .1)) (c .if2 .came)
 
 -- the tracks after the leap, and where the loop stands then
 abbrev pub leapt : tie.Joined2 Inv-loop μ-loop Inv-ticks μ-ticks → List Track
-leapt c = leapTracks (c .if2 .calm) (start (turn c) .args .present) (turn c .before .ticks .tracks)
+leapt c = leapTracks (c .if2 .skipped) (start (turn c) .args .present) (turn c .before .ticks .tracks)
 
-pub leapt-is : (c : tie.Joined2 Inv-loop μ-loop Inv-ticks μ-ticks) → leapInto (c .if2 .calm) (turn c .before .ticks .tracks) (members (turn c .before .ticks .word)) (turn c .before .ticks .tracks) ≡ leapt c
-leapt-is c = let k = turn c .before .ticks in leap-is (c .if2 .calm) _ _ (k .tracks) (k .inv .1) (k .inv .0 .tracks-long)
+pub leapt-is : (c : tie.Joined2 Inv-loop μ-loop Inv-ticks μ-ticks) → leapInto (c .if2 .skipped) (turn c .before .ticks .tracks) (members (turn c .before .ticks .word)) (turn c .before .ticks .tracks) ≡ leapt c
+leapt-is c = let k = turn c .before .ticks in leap-is (c .if2 .skipped) _ _ (k .tracks) (k .inv .1) (k .inv .0 .tracks-long)
 
 pub ahead : (c : tie.Joined2 Inv-loop μ-loop Inv-ticks μ-ticks) →
     let k = turn c .before .ticks in
-    Going (board (start (turn c))) (start (turn c) .args .count .0) (start (turn c) .args .log .now) (k .log) (leapt c) (k .clock + c .if2 .calm) (k .held) (k .taken + c .if2 .calm)
-    (Done (record { 0 = k .taken + c .if2 .calm }))
+    Going (board (start (turn c))) (start (turn c) .args .count .0) (start (turn c) .args .log .now) (k .log) (leapt c) (k .clock + c .if2 .skipped) (k .held) (k .taken + c .if2 .skipped)
+    (Done (record { 0 = k .taken + c .if2 .skipped }))
 ahead c =
     let k = turn c .before .ticks in
     let q = quiets c in
     let f = fewer c in
     let e = c .before .smaller .ensures in
-    going-leap _ _ _ _ _ _ _ _ _ (k .inv .0) _ (q .0) _ (k .inv .1) (able (turn c)) (q .2) (q .1) (omega arith) (omega arith) (sym (leapt-is c)) (whole (turn c) .clock)
+    going-leap _ _ _ _ _ _ _ _ _ (k .inv .0) _ (q .0) _ (k .inv .1) (leapable (turn c)) (q .2) (q .1) (omega arith) (omega arith) (sym (leapt-is c)) (whole (turn c) .clock)
 
 -- the board after the leap keeps the rules
-pub whole′ : (c : tie.Joined2 Inv-loop μ-loop Inv-ticks μ-ticks) → Unbroken (boardAt (board (start (turn c))) (leapt c) (turn c .before .ticks .clock + c .if2 .calm) (turn c .before .ticks .held))
+pub whole′ : (c : tie.Joined2 Inv-loop μ-loop Inv-ticks μ-ticks) → Unbroken (boardAt (board (start (turn c))) (leapt c) (turn c .before .ticks .clock + c .if2 .skipped) (turn c .before .ticks .held))
 whole′ c = unbroken-of _ (ahead c .whole)
 
 -- where all that can be taken was quiet: where the loop stands after the leap
@@ -125,28 +125,28 @@ leapt-all c =
     let e = j .before .smaller .ensures in
     let s = c .before .if3 .taken in
     let l = c .leapt .ensures in (
-      going-leap _ _ _ _ _ _ _ _ _ (k .inv .0) _ (q .0) _ (k .inv .1) (able (turn j)) (q .2) (omega (arith, q .1)) (omega arith) (omega arith) l (whole (turn j) .clock),
+      going-leap _ _ _ _ _ _ _ _ _ (k .inv .0) _ (q .0) _ (k .inv .1) (leapable (turn j)) (q .2) (omega (arith, q .1)) (omega arith) (omega arith) l (whole (turn j) .clock),
       k .inv .1 ∙ sym (leap-tracks-word (j .before .smaller .result) _ (k .tracks))
           ∙ ap (playingWord (start (turn j) .args .present)) (sym (l ∙ leap-is (j .before .smaller .result) _ _ (k .tracks) (k .inv .1) (k .inv .0 .tracks-long))),
     )
 
 -- a tick is left to walk
-pub short : (c : tie.Else3 Inv-loop μ-loop Inv-ticks μ-ticks) → c .before .if2 .calm < c .before .before .smaller .result
+pub short : (c : tie.Else3 Inv-loop μ-loop Inv-ticks μ-ticks) → c .before .if2 .skipped < c .before .before .smaller .result
 short c = let f = fewer (c .before) in let n = c .if3 .left in omega arith
 
 -- and the turn that looked for quiet ticks has leapt all of them
 pub longest : (c : tie.Else3 Inv-loop μ-loop Inv-ticks μ-ticks) →
     let j = c .before in
     let k = turn j .before .ticks in
-    k .look ≡ true → Fewest (keysOf (board (start (turn j)) .points)) (k .tracks) (members (playingWord (start (turn j) .args .present) (k .tracks))) clockEnd (j .if2 .calm)
+    k .look ≡ true → Fewest (keysOf (board (start (turn j)) .points)) (k .tracks) (members (playingWord (start (turn j) .args .present) (k .tracks))) clockEnd (j .if2 .skipped)
 longest c e =
     let j = c .before in
     let k = turn j .before .ticks in
     let n = short c in
     ⊎-elim
     (λ w.
-    let s : j .if2 .calm ≡ w .1 .result .0 = omega (arith, w .2 .ensures, w .3) in
-    subst (λ (i : ℕ). Fewest (keysOf (board (start (turn j)) .points)) (k .tracks) (members i) clockEnd (j .if2 .calm)) (k .inv .1)
+    let s : j .if2 .skipped ≡ w .1 .result .0 = omega (arith, w .2 .ensures, w .3) in
+    subst (λ (i : ℕ). Fewest (keysOf (board (start (turn j)) .points)) (k .tracks) (members i) clockEnd (j .if2 .skipped)) (k .inv .1)
     (subst (λ (r : ℕ). Fewest (keysOf (board (start (turn j)) .points)) (k .tracks) (members (k .word)) clockEnd r) (sym s) (w .1 .ensures)))
     (λ w. absurd (true≢false (sym e ∙ w .0 .left))) (j .if2 .came)
 
@@ -168,8 +168,8 @@ pub member : (c : tie.In-loop Inv-loop μ-loop Inv-ticks μ-ticks) → Lowest (c
 member c = turning-member _ _ _ _ _ _ _ _ _ _ _ _ _ (c .before .loop .inv) (c .loop-test .taken)
 
 -- its track, leapt
-pub stepping : (c : tie.After-leap Inv-loop μ-loop Inv-ticks μ-ticks) → Able (c .leap .result)
-stepping c = subst Able (sym (c .leap .ensures)) (turning-leapt _ _ _ _ _ _ _ _ _ _ _ _ _ (c .before .before .before .loop .inv) (c .before .before .loop-test .taken))
+pub stepping : (c : tie.After-leap Inv-loop μ-loop Inv-ticks μ-ticks) → CanLeap (c .leap .result)
+stepping c = subst CanLeap (sym (c .leap .ensures)) (turning-leapt _ _ _ _ _ _ _ _ _ _ _ _ _ (c .before .before .before .loop .inv) (c .before .before .loop-test .taken))
 
 -- ---- the tick is worked out
 
@@ -177,7 +177,7 @@ stepping c = subst Able (sym (c .leap .ensures)) (turning-leapt _ _ _ _ _ _ _ _ 
 abbrev pub tickAt : tie.Joined4 Inv-loop μ-loop Inv-ticks μ-ticks → Stage
 tickAt c =
     let k = turn (leap-at c) .before .ticks in
-    stageOf (board (entry c)) (k .log) (leapt (leap-at c)) (k .clock + leap-at c .if2 .calm) (k .held)
+    stageOf (board (entry c)) (k .log) (leapt (leap-at c)) (k .clock + leap-at c .if2 .skipped) (k .held)
 
 abbrev pub tick : tie.Joined6 Inv-loop μ-loop Inv-ticks μ-ticks → Stage
 tick c = tickAt (c .before .before .before .before)
@@ -185,14 +185,14 @@ tick c = tickAt (c .before .before .before .before)
 pub done : (c : tie.Joined6 Inv-loop μ-loop Inv-ticks μ-ticks) →
     let k = c .before .before .before .before in
     let s = entry k .args in
-    Ticked (parts (s .present) (s .keys .now) (s .infos .now) (s .n)) (leapt (leap-at k)) (turn (leap-at k) .before .ticks .clock + leap-at k .if2 .calm) (c .if6 .tracks) (c .if6 .total) (c .if6 .stage) (c .if6 .word)
+    Ticked (parts (s .present) (s .keys .now) (s .infos .now) (s .n)) (leapt (leap-at k)) (turn (leap-at k) .before .ticks .clock + leap-at k .if2 .skipped) (c .if6 .tracks) (c .if6 .total) (c .if6 .stage) (c .if6 .word)
 done c =
     let k = c .before .before .loop in
     let w = c .before .before .before .before .before .before .before .before .before .before .ticks .inv .1 in
     let l = c .before .loop-test .left in
     ⊎-elim
     (λ r.
-    turning-stirred _ _ _ _ _ w _ _ _ _ _ _ _ _ (k .inv) l (r .6 ∙ r .3 .ensures .0) (r .9 ∙ r .3 .ensures .1 .0) (r .8 ∙ r .3 .ensures .1 .1 .0)
+    turning-more _ _ _ _ _ w _ _ _ _ _ _ _ _ (k .inv) l (r .6 ∙ r .3 .ensures .0) (r .9 ∙ r .3 .ensures .1 .0) (r .8 ∙ r .3 .ensures .1 .1 .0)
     (r .7 ∙ r .3 .ensures .1 .1 .1 ∙ ap (playingWord _) (sym (r .6))))
     (λ r. turning-still _ _ _ _ _ w _ _ _ _ _ _ _ _ (k .inv) l (r .0 .left) (r .1) (r .4) (r .3) (r .2)) (c .if6 .came)
 
@@ -200,15 +200,15 @@ pub few : (c : tie.Joined6 Inv-loop μ-loop Inv-ticks μ-ticks) → c .if6 .tota
 few c =
     let k = c .before .before .before .before in
     let b = board (entry k) in
-    omega (arith, done c .count, tick-few (keysOf (b .points)) (infosOf (b .points)) (turn (leap-at k) .before .ticks .clock + leap-at k .if2 .calm + 1) (b .present) (leapt (leap-at k)))
+    omega (arith, done c .count, tick-few (keysOf (b .points)) (infosOf (b .points)) (turn (leap-at k) .before .ticks .clock + leap-at k .if2 .skipped + 1) (b .present) (leapt (leap-at k)))
 
 -- the tick is taken: where the loop stands after it
 pub walked : (c : tie.After-slice-known2 Inv-loop μ-loop Inv-ticks μ-ticks) →
     let d = c .before .before .before .before .before .before .before in
     let j = c .before .before .before .before .before .before .before .before .before .before .before .before .before in
     let k = turn j .before .ticks in
-    Going (board (start (turn j))) (start (turn j) .args .count .0) (start (turn j) .args .log .now) (c .before .before .commit .last .0) (d .if6 .tracks) (k .clock + j .if2 .calm + 1) (k .held + d .if6 .total) (k .taken + j .if2 .calm + 1)
-    (Done (record { 0 = k .taken + j .if2 .calm + 1 }))
+    Going (board (start (turn j))) (start (turn j) .args .count .0) (start (turn j) .args .log .now) (c .before .before .commit .last .0) (d .if6 .tracks) (k .clock + j .if2 .skipped + 1) (k .held + d .if6 .total) (k .taken + j .if2 .skipped + 1)
+    (Done (record { 0 = k .taken + j .if2 .skipped + 1 }))
 walked c =
     let j = c .before .before .before .before .before .before .before .before .before .before .before .before .before in
     let k = turn j .before .ticks in
@@ -230,7 +230,7 @@ pub full : (c : tie.Joined4 Inv-loop μ-loop Inv-ticks μ-ticks) →
     let room = capacity (length (entry c .args .log .now)) - k .held in
     room < tickMost → room < length (tickAt c .records) →
     Ended (board (entry c)) (go (entry c .args .count .0) (world (board (entry c)) (entry c .args .log .now)))
-    (record { answer = LogFull (record { 0 = k .taken + leap-at c .if2 .calm }); tracks = c .if4 .back; clock = record { 0 = k .clock + leap-at c .if2 .calm }; held = k .held }) (k .log)
+    (record { answer = LogFull (record { 0 = k .taken + leap-at c .if2 .skipped }); tracks = c .if4 .back; clock = record { 0 = k .clock + leap-at c .if2 .skipped }; held = k .held }) (k .log)
 full c h r =
     let j = leap-at c in
     let k = turn j .before .ticks in
@@ -239,6 +239,6 @@ full c h r =
     subst
     (λ (ts : List Track).
     Ended (board (entry c)) (go (entry c .args .count .0) (world (board (entry c)) (entry c .args .log .now)))
-    (record { answer = LogFull (record { 0 = k .taken + j .if2 .calm }); tracks = ts; clock = record { 0 = k .clock + j .if2 .calm }; held = k .held }) (k .log))
+    (record { answer = LogFull (record { 0 = k .taken + j .if2 .skipped }); tracks = ts; clock = record { 0 = k .clock + j .if2 .skipped }; held = k .held }) (k .log))
     (sym (kept-back c h))
     (going-full _ _ _ _ _ _ _ _ _ (ahead j) (omega (arith, turn j .ticks-test .taken)) (omega (arith, whole (turn j) .clock)) r)

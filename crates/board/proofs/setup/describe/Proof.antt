@@ -1,7 +1,7 @@
 use Prim.Native.Nat.{ℕ}
-use Rattle.board.proofs.setup.draw.Statement.{statement}
-use Rattle.board.proofs.setup.draw.Tie as tie
-use Rattle.board.specs.Setup.{drawnFrom}
+use Rattle.board.proofs.setup.describe.Statement.{statement}
+use Rattle.board.proofs.setup.describe.Tie as tie
+use Rattle.board.specs.Setup.{describedBy}
 use Rattle.track.proofs.Numbers.{told, natural-in, natural-out, natural-take, place-out, place-take}
 use Rattle.track.proofs.Tests.{cond-yes, cond-no}
 use Rattle.track.specs.Number.{naturalOf, coordinateOf, within}
@@ -29,7 +29,7 @@ enum-told : tie.Need-enum-told
 enum-told c = search needs
 
 returns : tie.Need-returns
-unfolding drawnFrom
+unfolding describedBy
 returns c = place-out _ _ _ (told (place (c .before .before .before .before .before .args .owner)) (c .before .before .before .before .before .fits .position) (c .before .before .between .ensures) (c .enum-told .given .1)) refl
 
 in-range-requires : tie.Need-in-range-requires
@@ -42,7 +42,7 @@ enum-told-2 : tie.Need-enum-told-2
 enum-told-2 c = search needs
 
 returns-2 : tie.Need-returns-2
-unfolding drawnFrom
+unfolding describedBy
 returns-2 c =
     place-take _ _ _ (told (place (c .before .before .before .before .before .before .before .before .before .args .owner)) (c .before .before .before .before .before .before .before .before .before .fits .position) (c .before .before .before .before .before .before .between .ensures) (c .before .before .before .before .l .given .1))
     (natural-out _ _ _ (told (number 1 255) (c .before .before .before .before .before .before .before .before .before .fits .event) (c .before .before .in-range .ensures) (c .enum-told2 .given .1)) refl)
@@ -57,7 +57,7 @@ enum-told-3 : tie.Need-enum-told-3
 enum-told-3 c = search needs
 
 returns-3 : tie.Need-returns-3
-unfolding drawnFrom
+unfolding describedBy
 returns-3 c =
     place-take _ _ _ (told (place (c .before .before .before .before .before .before .before .before .before .before .before .before .before .args .owner)) (c .before .before .before .before .before .before .before .before .before .before .before .before .before .fits .position) (c .before .before .before .before .before .before .before .before .before .before .between .ensures) (c .before .before .before .before .before .before .before .before .l .given .1))
     (natural-take _ _ _ (told (number 1 255) (c .before .before .before .before .before .before .before .before .before .before .before .before .before .fits .event) (c .before .before .before .before .before .before .in-range .ensures) (c .before .before .before .before .e .given .1))
@@ -73,7 +73,7 @@ enum-told-4 : tie.Need-enum-told-4
 enum-told-4 c = search needs
 
 returns-4 : tie.Need-returns-4
-unfolding drawnFrom
+unfolding describedBy
 returns-4 c =
     place-take _ _ _ (told (place (c .before .before .before .before .before .before .before .before .before .before .before .before .before .before .before .before .before .args .owner)) (c .before .before .before .before .before .before .before .before .before .before .before .before .before .before .before .before .before .fits .position) (c .before .before .before .before .before .before .before .before .before .before .before .before .before .before .between .ensures) (c .before .before .before .before .before .before .before .before .before .before .before .before .l .given .1))
     (natural-take _ _ _ (told (number 1 255) (c .before .before .before .before .before .before .before .before .before .before .before .before .before .before .before .before .before .fits .event) (c .before .before .before .before .before .before .before .before .before .before .in-range .ensures) (c .before .before .before .before .before .before .before .before .e .given .1))
@@ -90,7 +90,7 @@ enum-told-5 : tie.Need-enum-told-5
 enum-told-5 c = search needs
 
 returns-5 : tie.Need-returns-5
-unfolding drawnFrom
+unfolding describedBy
 returns-5 c =
     place-take _ _ _ (told (place (c .before .before .before .before .before .before .before .before .before .before .before .before .before .before .before .before .before .before .before .before .before .args .owner)) (c .before .before .before .before .before .before .before .before .before .before .before .before .before .before .before .before .before .before .before .before .before .fits .position) (c .before .before .before .before .before .before .before .before .before .before .before .before .before .before .before .before .before .before .between .ensures) (c .before .before .before .before .before .before .before .before .before .before .before .before .before .before .before .before .l .given .1))
     (natural-take _ _ _ (told (number 1 255) (c .before .before .before .before .before .before .before .before .before .before .before .before .before .before .before .before .before .before .before .before .before .fits .event) (c .before .before .before .before .before .before .before .before .before .before .before .before .before .before .in-range .ensures) (c .before .before .before .before .before .before .before .before .before .before .before .before .e .given .1))
@@ -110,31 +110,31 @@ cast-t24 c = fits-below tt (natural-in _ 0 4 (told (number 0 4) (c .before .befo
 cast-t25 : tie.Need-cast-t25
 cast-t25 c = fits-below tt (natural-in _ 0 15 (told (number 0 15) (c .before .before .before .before .before .before .before .before .before .before .before .before .before .before .before .before .before .before .before .before .before .before .fits .target) (c .before .before .before .in-range4 .ensures) (c .before .g .given .1)) .2)
 
-able-requires : tie.Need-able-requires
-able-requires c κs = search needs
+allowed-requires : tie.Need-allowed-requires
+allowed-requires c κs = search needs
 
 returns-6 : tie.Need-returns-6
-unfolding drawnFrom
+unfolding describedBy
 returns-6 c =
     place-take _ _ _ (told (place (c .before .before .before .before .before .before .before .before .before .before .before .before .before .before .before .before .before .before .before .before .before .before .before .before .args .owner)) (c .before .before .before .before .before .before .before .before .before .before .before .before .before .before .before .before .before .before .before .before .before .before .before .before .fits .position) (c .before .before .before .before .before .before .before .before .before .before .before .before .before .before .before .before .before .before .before .before .before .between .ensures) (c .before .before .before .before .before .before .before .before .before .before .before .before .before .before .before .before .before .before .before .l .given .1))
     (natural-take _ _ _ (told (number 1 255) (c .before .before .before .before .before .before .before .before .before .before .before .before .before .before .before .before .before .before .before .before .before .before .before .before .fits .event) (c .before .before .before .before .before .before .before .before .before .before .before .before .before .before .before .before .before .in-range .ensures) (c .before .before .before .before .before .before .before .before .before .before .before .before .before .before .before .e .given .1))
     (natural-take _ _ _ (told (number 0 1) (c .before .before .before .before .before .before .before .before .before .before .before .before .before .before .before .before .before .before .before .before .before .before .before .before .fits .wait) (c .before .before .before .before .before .before .before .before .before .before .before .before .before .in-range2 .ensures) (c .before .before .before .before .before .before .before .before .before .before .before .w .given .1))
     (natural-take _ _ _ (told (number 0 4) (c .before .before .before .before .before .before .before .before .before .before .before .before .before .before .before .before .before .before .before .before .before .before .before .before .fits .command) (c .before .before .before .before .before .before .before .before .before .in-range3 .ensures) (c .before .before .before .before .before .before .before .c .given .1))
     (natural-take _ _ _ (told (number 0 15) (c .before .before .before .before .before .before .before .before .before .before .before .before .before .before .before .before .before .before .before .before .before .before .before .before .fits .target) (c .before .before .before .before .before .in-range4 .ensures) (c .before .before .before .g .given .1))
-    (cond-yes _ _ (sym (c .before .able .ensures) ∙ c .if1 .taken) refl)))))
+    (cond-yes _ _ (sym (c .before .allowed .ensures) ∙ c .if1 .taken) refl)))))
 
 returns-7 : tie.Need-returns-7
-unfolding drawnFrom
+unfolding describedBy
 returns-7 c =
     place-take _ _ _ (told (place (c .before .before .before .before .before .before .before .before .before .before .before .before .before .before .before .before .before .before .before .before .before .before .before .before .args .owner)) (c .before .before .before .before .before .before .before .before .before .before .before .before .before .before .before .before .before .before .before .before .before .before .before .before .fits .position) (c .before .before .before .before .before .before .before .before .before .before .before .before .before .before .before .before .before .before .before .before .before .between .ensures) (c .before .before .before .before .before .before .before .before .before .before .before .before .before .before .before .before .before .before .before .l .given .1))
     (natural-take _ _ _ (told (number 1 255) (c .before .before .before .before .before .before .before .before .before .before .before .before .before .before .before .before .before .before .before .before .before .before .before .before .fits .event) (c .before .before .before .before .before .before .before .before .before .before .before .before .before .before .before .before .before .in-range .ensures) (c .before .before .before .before .before .before .before .before .before .before .before .before .before .before .before .e .given .1))
     (natural-take _ _ _ (told (number 0 1) (c .before .before .before .before .before .before .before .before .before .before .before .before .before .before .before .before .before .before .before .before .before .before .before .before .fits .wait) (c .before .before .before .before .before .before .before .before .before .before .before .before .before .in-range2 .ensures) (c .before .before .before .before .before .before .before .before .before .before .before .w .given .1))
     (natural-take _ _ _ (told (number 0 4) (c .before .before .before .before .before .before .before .before .before .before .before .before .before .before .before .before .before .before .before .before .before .before .before .before .fits .command) (c .before .before .before .before .before .before .before .before .before .in-range3 .ensures) (c .before .before .before .before .before .before .before .c .given .1))
     (natural-take _ _ _ (told (number 0 15) (c .before .before .before .before .before .before .before .before .before .before .before .before .before .before .before .before .before .before .before .before .before .before .before .before .fits .target) (c .before .before .before .before .before .in-range4 .ensures) (c .before .before .before .g .given .1))
-    (cond-no _ _ (sym (c .before .able .ensures) ∙ c .if1 .left) refl)))))
+    (cond-no _ _ (sym (c .before .allowed .ensures) ∙ c .if1 .left) refl)))))
 
-pub draw-spec : {M : Type 1} → statement M
-draw-spec =
+pub describe-spec : {M : Type 1} → statement M
+describe-spec =
     tie.close
     (tie.spec
     between-requires
@@ -161,6 +161,6 @@ draw-spec =
     cast-t23
     cast-t24
     cast-t25
-    able-requires
+    allowed-requires
     returns-6
     returns-7)

@@ -1,14 +1,14 @@
 use Prim.Native.Nat.{_<_, _≤_}
-use Rattle.board.proofs.mode.judge.Statement.{statement}
-use Rattle.board.proofs.mode.judge.Tie as tie
+use Rattle.board.proofs.mode.change_mode.Statement.{statement}
+use Rattle.board.proofs.mode.change_mode.Tie as tie
 use Rattle.board.proofs.rules.Broken.{unbroken-of, present-small}
 use Rattle.board.proofs.tick.Commands.{Goes?, grid-goes}
 use Rattle.board.proofs.rules.Present.{found-in}
-use Rattle.board.proofs.mode.Rulings.{ruling-gives, follows-declined, follows-silent, follows-noted, follows-full, changed-with, unmoved}
+use Rattle.board.proofs.mode.Results.{result-gives, follows-declined, follows-silent, follows-noted, follows-full, changed-with, unmoved}
 use Rattle.board.specs.declared.Board.{Board}
 use Rattle.board.specs.Board.{foundIn, unbrokenTest, Unbroken, trackAt, boardOf}
-use Rattle.board.specs.declared.mode.Ruled.{Ruled}
-use Rattle.board.specs.Mode.{decided, changesTo, modeRuling}
+use Rattle.board.specs.declared.mode.ModeChange.{ModeChange}
+use Rattle.board.specs.Mode.{decided, changesTo, modeResult}
 use Rattle.track.proofs.Numbers.{told, natural-out, natural-take}
 use Rattle.board.proofs.rules.Passing.{length-mapped}
 use Rattle.track.proofs.Tests.{cond-yes, cond-no}
@@ -61,13 +61,13 @@ low c = subst Goes? (goes c) (grid-goes _ _)
 valid : (c : tie.After-i) → trackAt (start (fitting c) .args .t1) (c .i .given .0 .0) .mode ≤ 3
 valid c = kept (fitting c) .tracks _ (found-in _ _ (number c)) .valid .mode
 
--- up to the change, the ruling is that of the change
-ruling : (c : tie.After-new) →
+-- up to the change, the result is that of the change
+chosen : (c : tie.After-new) →
     let s = start (fitting (entry c)) in
     changesTo (board s) (length (s .args .log .now)) (entry c .i .given .0 .0) (c .new .given .0 .0)
-    ≡ modeRuling (board s) (length (s .args .log .now)) (s .args .track) (s .args .call)
-unfolding modeRuling decided
-ruling c =
+    ≡ modeResult (board s) (length (s .args .log .now)) (s .args .track) (s .args .call)
+unfolding modeResult decided
+chosen c =
     cond-yes _ _ (whole (fitting (entry c)))
     (cond-yes _ _ (le-leb _ _ (c .before .before .before .before .before .before .before .before .if2 .left))
     (natural-take _ _ _ (number (entry c)) (ap (decided _ _ _) (sym (goes c)))))
@@ -82,22 +82,22 @@ declined-requires : tie.Need-declined-requires
 declined-requires c κs = search needs
 
 returns : tie.Need-returns
-unfolding modeRuling
+unfolding modeResult
 returns c =
     let b = board (c .before .before .before .before .before .before .before) in (
-      ruling-gives b _ _ _ (follows-declined 3 b _ (cond-no _ _ (sym (c .before .before .unbroken .ensures) ∙ not-true _ (c .before .if1 .taken)) refl) (unmoved 3 b (c .declined .ensures))),
-      omega (arith, ap (λ (r : Ruled). r .at) (c .declined .ensures)),
+      result-gives b _ _ _ (follows-declined 3 b _ (cond-no _ _ (sym (c .before .before .unbroken .ensures) ∙ not-true _ (c .before .if1 .taken)) refl) (unmoved 3 b (c .declined .ensures))),
+      omega (arith, ap (λ (r : ModeChange). r .at) (c .declined .ensures)),
     )
 
 declined-requires-2 : tie.Need-declined-requires-2
 declined-requires-2 c κs = search needs
 
 returns-2 : tie.Need-returns-2
-unfolding modeRuling
+unfolding modeResult
 returns-2 c =
     let b = board (c .before .before .before .before .before .before .before .before) in (
-      ruling-gives b _ _ _ (follows-declined 7 b _ (cond-yes _ _ (whole (c .before .before)) (cond-no _ _ (lt-leb _ _ (c .before .if2 .taken)) refl)) (unmoved 7 b (c .declined2 .ensures))),
-      omega (arith, ap (λ (r : Ruled). r .at) (c .declined2 .ensures)),
+      result-gives b _ _ _ (follows-declined 7 b _ (cond-yes _ _ (whole (c .before .before)) (cond-no _ _ (lt-leb _ _ (c .before .if2 .taken)) refl)) (unmoved 7 b (c .declined2 .ensures))),
+      omega (arith, ap (λ (r : ModeChange). r .at) (c .declined2 .ensures)),
     )
 
 found-requires : tie.Need-found-requires
@@ -113,15 +113,15 @@ declined-requires-3 : tie.Need-declined-requires-3
 declined-requires-3 c κs = search needs
 
 returns-3 : tie.Need-returns-3
-unfolding modeRuling
+unfolding modeResult
 returns-3 c =
     let s = c .before .before .before .before .before .before .before .before .before .before .before in
     let b = board s in (
-      ruling-gives b _ _ _ (follows-declined 1 b _
+      result-gives b _ _ _ (follows-declined 1 b _
           (cond-yes _ _ (whole (c .before .before .before .before .before)) (cond-yes _ _ (le-leb _ _ (c .before .before .before .before .if2 .left))
           (natural-out _ _ _ (told (foundIn (s .args .present)) (s .fits .track) (c .before .before .before .found .ensures) (c .before .enum-told .given .1)) refl)))
           (unmoved 1 b (c .declined3 .ensures))),
-      omega (arith, ap (λ (r : Ruled). r .at) (c .declined3 .ensures)),
+      omega (arith, ap (λ (r : ModeChange). r .at) (c .declined3 .ensures)),
     )
 
 cast-at : tie.Need-cast-at
@@ -146,14 +146,14 @@ declined-requires-4 : tie.Need-declined-requires-4
 declined-requires-4 c κs = search needs
 
 returns-4 : tie.Need-returns-4
-unfolding modeRuling decided
+unfolding modeResult decided
 returns-4 c =
     let b = board (c .before .before .before .before .before .before .before .before .before .before .before .before .before .before .before .before) in (
-      ruling-gives b _ _ _ (follows-declined 2 b _
+      result-gives b _ _ _ (follows-declined 2 b _
           (cond-yes _ _ (whole (c .before .before .before .before .before .before .before .before .before .before)) (cond-yes _ _ (le-leb _ _ (c .before .before .before .before .before .before .before .before .before .if2 .left))
           (natural-take _ _ _ (number (c .before .before .before .before .before .before)) (ap (decided _ _ _) (sym (sym (c .before .before .before .grid .ensures) ∙ c .before .enum-told2 .given .1))))))
           (unmoved 2 b (c .declined4 .ensures))),
-      omega (arith, ap (λ (r : Ruled). r .at) (c .declined4 .ensures)),
+      omega (arith, ap (λ (r : ModeChange). r .at) (c .declined4 .ensures)),
     )
 
 entered-requires : tie.Need-entered-requires
@@ -166,7 +166,7 @@ returns-5 : tie.Need-returns-5
 returns-5 c =
     let b = board (c .before .before .before .before .before .before .before .before .before .before .before .before .before .before .before .before .before .before .before) in
     let l = small (c .before .before .before .before .before .before .before .before .before) in (
-      ruling-gives b _ _ _ (follows-silent b _ _ _ (ruling (c .before .before .before .before)) (sym (c .before .action .ensures) ∙ c .if3 .taken) (c .before .before .before .before .before .before .before .before .before .before .before .before .if2 .left)
+      result-gives b _ _ _ (follows-silent b _ _ _ (chosen (c .before .before .before .before)) (sym (c .before .action .ensures) ∙ c .if3 .taken) (c .before .before .before .before .before .before .before .before .before .before .before .before .if2 .left)
           (changed-with b _ _ (c .before .before .entered .ensures))),
       omega arith,
     )
@@ -178,8 +178,8 @@ returns-6 : tie.Need-returns-6
 returns-6 c =
     let b = board (c .before .before .before .before .before .before .before .before .before .before .before .before .before .before .before .before .before .before .before .before .before) in
     let a = c .before .before .before .action .ensures in (
-      ruling-gives b _ _ _ (follows-full b _ _ _ (ruling (c .before .before .before .before .before .before)) (λ z. c .before .before .if3 .left (a ∙ z)) (c .before .if4 .taken) (unmoved 8 b (c .declined5 .ensures))),
-      omega (arith, ap (λ (r : Ruled). r .at) (c .declined5 .ensures)),
+      result-gives b _ _ _ (follows-full b _ _ _ (chosen (c .before .before .before .before .before .before)) (λ z. c .before .before .if3 .left (a ∙ z)) (c .before .if4 .taken) (unmoved 8 b (c .declined5 .ensures))),
+      omega (arith, ap (λ (r : ModeChange). r .at) (c .declined5 .ensures)),
     )
 
 cast-stage-change : tie.Need-cast-stage-change
@@ -197,13 +197,13 @@ returns-7 c =
     let a = c .before .before .before .before .before .before .before .before .action .ensures in
     let l = small (c .before .before .before .before .before .before .before .before .before .before .before .before .before .before .before .before) in
     let w = c .before .before .stage-change .ensures in (
-      ruling-gives b _ _ _ (follows-noted b _ _ _ (ruling (c .before .before .before .before .before .before .before .before .before .before .before)) (λ z. c .before .before .before .before .before .before .before .if3 .left (a ∙ z)) (c .before .before .before .before .before .before .if4 .left)
+      result-gives b _ _ _ (follows-noted b _ _ _ (chosen (c .before .before .before .before .before .before .before .before .before .before .before)) (λ z. c .before .before .before .before .before .before .before .if3 .left (a ∙ z)) (c .before .before .before .before .before .before .if4 .left)
           (changed-with b _ _ (c .before .before .before .before .before .before .before .before .before .entered .ensures)) (w .0) (w .1)),
       omega arith,
     )
 
-pub judge-spec : {M : Type 1} → statement M
-judge-spec =
+pub change-mode-spec : {M : Type 1} → statement M
+change-mode-spec =
     tie.close
     (tie.spec
     array-copy-out-first

@@ -1,4 +1,4 @@
--- What a mode call comes to on each way out, and that what follows its ruling is what the call gives.
+-- What a mode call comes to on each way out, and that what follows its result is what the call gives.
 use Prim.Native.Nat.{ℕ, _+_, _*_, _≤_, _<_}
 use mathlib.Core.Path.{_≡_, refl, sym, _∙_, ap, subst}
 use mathlib.Core.List.{List, [], _∷_}
@@ -20,32 +20,32 @@ use Rattle.board.proofs.tick.Staging.{length-log, write-none}
 use Rattle.board.specs.Board.{noTrack, trackAt}
 use Rattle.board.specs.Setup.{refused, accepted, boardWith}
 use Rattle.board.specs.Tick.{recordOf, changeRecords}
-use Rattle.board.specs.Mode.{Ruling, declined, callRecords, changesTo, modeRuling, outcomeOf}
-use Rattle.board.specs.declared.mode.Ruled.{Ruled}
+use Rattle.board.specs.Mode.{ModeResult, declined, callRecords, changesTo, modeResult, outcomeOf}
+use Rattle.board.specs.declared.mode.ModeChange.{ModeChange}
 use Rattle.board.specs.Replay.{World, flat}
 use Rattle.board.specs.declared.call.Call.the-variants as call
 use Rattle.track.specs.Grid.{PLAY, PAUSE, RESUME, STOP}
-use Rattle.board.specs.Call.{Reply, answered, gridstep, countOf, saysOf, makesOf, does, modeDoes, world, Gives}
+use Rattle.board.specs.Call.{Reply, answered, gridstep, runCount, saysOf, makesOf, does, modeDoes, world, Gives}
 use Rattle.board.proofs.replay.Replays.{sets-write}
-use Rattle.board.proofs.call.Machine.{flat-is, ruling-ways}
+use Rattle.board.proofs.call.Machine.{flat-is, result-ways}
 
--- an outcome, and the log before and after it, follow a ruling: the records go behind the held ones, and held grows by them
-pub record Follows (m : Ruling) (o : Outcome) (before after : List ℕ) : Type 0 where
+-- an outcome, and the log before and after it, follow a result: the records go behind the held ones, and held grows by them
+pub record Follows (m : ModeResult) (o : Outcome) (before after : List ℕ) : Type 0 where
   pub answer-is : o .answer ≡ m .answer
   pub board-is : o .board ≡ boardWith (m .board) (m .board .tracks) (m .board .present) (m .board .points) (m .board .held + length (m .records))
   pub log-is : after ≡ writeAt before (m .board .held * recordWidth) (logBytes (m .records))
 
--- ---- what follows a ruling is what the call gives
+-- ---- what follows a result is what the call gives
 
 module _ (b : Board) (log : List ℕ) where
   -- storing the records of a mode call is writing them
-  ruling-log : (track : ℤ) (code : ℕ) →
-      let m = modeRuling b (length log) track code in
+  result-log : (track : ℤ) (code : ℕ) →
+      let m = modeResult b (length log) track code in
       writeAt log (m .board .held * recordWidth) (logBytes (m .records)) ≡ sets log (recordWidth * m .board .held) (flat gridstep (m .records))
   unfolding logBytes
-  ruling-log =
-      ruling-ways b (length log)
-      (λ (m : Ruling). writeAt log (m .board .held * recordWidth) (logBytes (m .records)) ≡ sets log (recordWidth * m .board .held) (flat gridstep (m .records)))
+  result-log =
+      result-ways b (length log)
+      (λ (m : ModeResult). writeAt log (m .board .held * recordWidth) (logBytes (m .records)) ≡ sets log (recordWidth * m .board .held) (flat gridstep (m .records)))
       (λ k. write-none log (b .held * recordWidth))
       (λ i mode _ _ fits.
       let rs = callRecords b i mode in
@@ -53,12 +53,12 @@ module _ (b : Board) (log : List ℕ) where
       sym (sets-write log (logBytes rs) (b .held * recordWidth) (omega arith))
       ∙ (λ j. sets log (mul-comm (b .held) recordWidth j) (sym (flat-is rs) j)))
 
-  -- what follows a mode call's ruling is what the call gives
-  pub ruling-gives : (track : ℤ) (code : ℕ) {r : Outcome} {after : List ℕ} → Follows (modeRuling b (length log) track code) r log after →
+  -- what follows a mode call's result is what the call gives
+  pub result-gives : (track : ℤ) (code : ℕ) {r : Outcome} {after : List ℕ} → Follows (modeResult b (length log) track code) r log after →
       Gives (modeDoes code track (world b log)) (answered (r .answer)) (r .board) after
   unfolding modeDoes
-  ruling-gives track code f =
-      record { answer-is = ap answered (f .answer-is); board-is = f .board-is; log-is = f .log-is ∙ ruling-log track code }
+  result-gives track code f =
+      record { answer-is = ap answered (f .answer-is); board-is = f .board-is; log-is = f .log-is ∙ result-log track code }
 
 -- the same of each of the four, the number of the track as it was given
 module _ (w : World Board) {told given : ℤ} {a : Reply} {b : Board} {log : List ℕ} (e : told ≡ given) where
@@ -66,28 +66,28 @@ module _ (w : World Board) {told given : ℤ} {a : Reply} {b : Board} {log : Lis
   gives-told code g = subst (λ (t : ℤ). Gives (modeDoes code t w) a b log) e g
 
   pub play-gives : Gives (modeDoes PLAY told w) a b log → Gives (does (call.Play given) w) a b log
-  unfolding modeDoes countOf saysOf makesOf
+  unfolding modeDoes runCount saysOf makesOf
   play-gives g = subst (λ (t : ℤ). Gives (does (call.Play t) w) a b log) e g
 
   pub pause-gives : Gives (modeDoes PAUSE told w) a b log → Gives (does (call.Pause given) w) a b log
-  unfolding modeDoes countOf saysOf makesOf
+  unfolding modeDoes runCount saysOf makesOf
   pause-gives g = subst (λ (t : ℤ). Gives (does (call.Pause t) w) a b log) e g
 
   pub resume-gives : Gives (modeDoes RESUME told w) a b log → Gives (does (call.Resume given) w) a b log
-  unfolding modeDoes countOf saysOf makesOf
+  unfolding modeDoes runCount saysOf makesOf
   resume-gives g = subst (λ (t : ℤ). Gives (does (call.Resume t) w) a b log) e g
 
   pub stop-gives : Gives (modeDoes STOP told w) a b log → Gives (does (call.Stop given) w) a b log
-  unfolding modeDoes countOf saysOf makesOf
+  unfolding modeDoes runCount saysOf makesOf
   stop-gives g = subst (λ (t : ℤ). Gives (does (call.Stop t) w) a b log) e g
 
 -- ---- the ways out
 
--- a refusal follows a ruling that declines
-pub follows-declined : (k : ℕ) (b : Board) (log : List ℕ) {m : Ruling} {r : Outcome} → declined k b ≡ m → r ≡ refused k b → Follows m r log log
+-- a refusal follows a result that declines
+pub follows-declined : (k : ℕ) (b : Board) (log : List ℕ) {m : ModeResult} {r : Outcome} → declined k b ≡ m → r ≡ refused k b → Follows m r log log
 unfolding logBytes
 follows-declined k b log {m} {r} e q =
-    subst (λ (m : Ruling). Follows m r log log) e
+    subst (λ (m : ModeResult). Follows m r log log) e
     (record {
       answer-is = ap (λ (o : Outcome). o .answer) q;
       board-is = ap (λ (o : Outcome). o .board) q ∙ ap (λ (h : ℕ). boardWith b (b .tracks) (b .present) (b .points) h) (sym (add-zero (b .held)));
@@ -95,7 +95,7 @@ follows-declined k b log {m} {r} e q =
     })
 
 -- a call that is declined leaves the board as it is
-pub unmoved : (k : ℕ) (b : Board) {r : Ruled} → r ≡ record { answer = Refused k; at = 0; track = trackAt (b .tracks) 0; held = b .held } → outcomeOf b r ≡ refused k b
+pub unmoved : (k : ℕ) (b : Board) {r : ModeChange} → r ≡ record { answer = Refused k; at = 0; track = trackAt (b .tracks) 0; held = b .held } → outcomeOf b r ≡ refused k b
 unmoved k b e =
     ap (outcomeOf b) e
     ∙ ap (λ (ts : List Track). refused k (boardWith b ts (b .present) (b .points) (b .held))) (set-getD (b .tracks) 0 noTrack)
@@ -125,12 +125,12 @@ module _ (b : Board) (n i mode : ℕ) where
   unfolding changeRecords
   noted e = simp (ne-eqb _ _ e)
 
-  module _ {r : Outcome} {before : List ℕ} {m : Ruling} (e : changesTo b n i mode ≡ m) where
+  module _ {r : Outcome} {before : List ℕ} {m : ModeResult} (e : changesTo b n i mode ≡ m) where
     -- a change without a record never gets 8
     pub follows-silent : cell ≡ 0 → b .held ≤ capacity n → r ≡ accepted changed → Follows m r before before
     unfolding changesTo logBytes
     follows-silent z h q =
-        subst (λ (m : Ruling). Follows m r before before) (made ∙ e)
+        subst (λ (m : ModeResult). Follows m r before before) (made ∙ e)
         (record {
           answer-is = ap (λ (o : Outcome). o .answer) q;
           board-is = ap (λ (o : Outcome). o .board) q
@@ -150,7 +150,7 @@ module _ (b : Board) (n i mode : ℕ) where
         Follows m r before after
     unfolding changesTo
     follows-noted {held} {after} z h q c l =
-        subst (λ (m : Ruling). Follows m r before after) (made ∙ e)
+        subst (λ (m : ModeResult). Follows m r before after) (made ∙ e)
         (record {
           answer-is = ap (λ (o : Outcome). o .answer) q;
           board-is = ap (λ (o : Outcome). o .board) q
