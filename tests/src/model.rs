@@ -1,5 +1,5 @@
 //! The board of 01 in plain Rust: single ticks, nothing leapt, every number an i64.
-//! "Reading n" is an entry of design.md, section 10, where 01 leaves a point open.
+//! "Decision n" is an entry of docs/DECISIONS.md, where 01 leaves a point open.
 
 use crate::call::{Board, Reply, refusal};
 use crate::record::{self, RECORD, Record, capacity};
@@ -69,7 +69,7 @@ impl Stage {
         if track.position == track.far() {
             track.passes += 1;
             if track.repeat == 0 && track.passes >= track.loops {
-                // Reading 4: the point is reported and its command runs; only its wait counts for nothing.
+                // Decision 7: the point is reported and its command runs; only its wait counts for nothing.
                 self.enter(number, STOPPED);
                 return point;
             }
@@ -80,7 +80,7 @@ impl Stage {
         point
     }
 
-    /// A point's command on its target, which may be the point's own track (reading 7).
+    /// A point's command on its target, which may be the point's own track.
     fn command(&mut self, point: Point) {
         let target = point.target as usize;
         let mode = self.track(target).mode;
@@ -97,7 +97,7 @@ pub struct Model {
     /// by track and position
     pub points: BTreeMap<(i64, i64), Point>,
     pub clock: i64,
-    /// the number of records held in the log; without a rule but refusal 7 (reading 1)
+    /// the number of records held in the log; without a rule but refusal 7 (decision 1)
     pub held: u64,
 }
 
@@ -241,7 +241,7 @@ impl Board for Model {
             |_| flag(d),
             |track| {
                 track.direction = d;
-                // Reading 6: rewinds even with the same value.
+                // Decision 6: rewinds even with the same value.
                 if track.mode == STOPPED {
                     track.rewind();
                 }
@@ -250,7 +250,7 @@ impl Board for Model {
     }
 
     fn action(&mut self, t: i64, from: i64, to: i64, event: i64) -> Reply {
-        // Reading 9: equal modes are 3 even with event 0; event 0 clears a cell.
+        // Decision 8: equal modes are 3 even with event 0; event 0 clears a cell.
         let mode = |n: i64| (STOPPED..=WAITING).contains(&n);
         let fits = mode(from) && mode(to) && from != to && (0..=255).contains(&event);
         self.change(t, STANDING, |_| fits, |track| track.actions[from as usize][to as usize] = event)

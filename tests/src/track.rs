@@ -77,7 +77,7 @@ impl Track {
         }
     }
 
-    /// The ranges and rules of a track, no more (design.md 10, reading 1): a STOPPED track off home is not broken.
+    /// The ranges and rules of a track, no more (docs/DECISIONS.md, 1): a STOPPED track off home is not broken.
     pub fn unbroken(&self, clock: i64) -> bool {
         let bounds = -BOUND <= self.min && self.min < self.max && self.max <= BOUND;
         let span = self.min <= self.start && self.start < self.end && self.end <= self.max;

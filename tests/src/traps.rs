@@ -62,7 +62,7 @@ pub fn traps<B: Begun>() {
     assert_eq!(bench.call(Advance(3)), Done(3));
     let lines = [[1, 0, 1, 1, 65, 0, 0], [1, 1, 1, 3, 0, 0, 0], [2, 0, 1, 2, 18, 1, 0], [3, 2, 1, 4, 0, 0, 0]];
     assert_eq!(bench.lines(), lines);
-    // Loops 1, jump to far, play: stops in the first tick, its wait for nothing (reading 4).
+    // Loops 1, jump to far, play: stops in the first tick, its wait for nothing (decisions 4 and 7).
     let mut bench = Bench::<B>::new(160);
     bench.accept(&[Track(0, 0, 3), Point(0, 3, 9, 1, 4, 0), Action(0, 1, 0, 8), Jump(0, 3), Play(0)]);
     assert_eq!(bench.call(Advance(2)), Done(2));

@@ -71,7 +71,7 @@ fn broken_model_is_refused() {
     }
 }
 
-/// Not broken (reading 1): held beyond every log, a STOPPED track off home with passes.
+/// Not broken (decision 1): held beyond every log, a STOPPED track off home with passes.
 #[test]
 fn odd_boards_stand() {
     let mut bench = Bench::<Model>::case_a(64);
@@ -125,7 +125,7 @@ fn altered_boards_agree() {
             peer.apply(call, &mut log);
         }
         (0..rng.between(1, 2)).for_each(|_| mutate(&mut peer, &mut rng));
-        // The model's points ascend of themselves; a row that does not is broken in the form (reading 1).
+        // The model's points ascend of themselves; a row that does not is broken in the form (decision 21).
         let ascend = peer.keys[..peer.count].is_sorted_by(|a, b| a < b);
         let model = peer.picture();
         assert_eq!(peer.unbroken(), ascend && model.unbroken());

@@ -9,7 +9,8 @@ use Rattle.board.specs.Board.{freshBoard}
 use Rattle.board.specs.Replay.{flat, clearedAt, Each}
 use Rattle.board.specs.Call.{gridstep}
 use Rattle.board.specs.Lists.{cutUp, start, replayed, sinceClear}
-use Rattle.board.proofs.replay.Replays.{holds, each-drop}
+use Rattle.board.proofs.replay.Replays.{holds}
+use Rattle.board.proofs.replay.Kinds.{each-drop}
 use Rattle.board.proofs.call.Machine.{counts, room}
 use Rattle.board.proofs.lists.Ranges.{row-unpacks}
 

@@ -37,7 +37,7 @@ use Rattle.board.proofs.setup.Keeping.{fresh-whole}
 use Rattle.board.proofs.tick.Commands.{Goes?, grid-goes, obeyed-keeps, at-set, recordsRun, recordsIn, obeyedIn, run-apart, records-first}
 use Rattle.board.proofs.tick.Steps.{members-ascend, foundAt, steppedIn, writtenBy, stepsFrom, steps-apart, steps-at, Allowed, found-allowed, entered-sound, later-sound, step-sound}
 use Rattle.board.proofs.quiet.Players.{members-present}
-use Rattle.board.proofs.replay.Replays.{each-append, each-follows, list-keeps}
+use Rattle.board.proofs.replay.Kinds.{each-append, each-follows, list-keeps}
 use Rattle.board.proofs.call.Machine.{counts, result-ways, halt-none, tick-whole, made-whole}
 use Rattle.board.proofs.advance.Advancing.{whole-points}
 

@@ -35,7 +35,8 @@ use Rattle.board.specs.Call.{world, Gives}
 use Rattle.board.specs.Lists.{cutUp, start, replayed}
 use Rattle.board.specs.Arrivals.{arrivalsIn, arrivalRecord, arrivalRecords, isPoint}
 use Rattle.board.proofs.replay.Cuts.{recut, cut, advance-add, advance-in, advance-out}
-use Rattle.board.proofs.replay.Replays.{shown-takes, w-kept, agrees, rows, kinds, cuts, gathered-length, total-same}
+use Rattle.board.proofs.replay.Replays.{shown-takes, w-kept, agrees, rows, cuts}
+use Rattle.board.proofs.replay.Kinds.{kinds, gathered-length, total-same}
 use Rattle.board.proofs.call.Machine.{counts, room, kept, read, call-whole}
 use Rattle.board.proofs.call.Refusals.{silent}
 use Rattle.board.proofs.lists.Reports.{tick-points, call-points}

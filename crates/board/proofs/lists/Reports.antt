@@ -30,7 +30,7 @@ use Rattle.board.specs.Arrivals.{Arrival, arrivalAt, arrivalsOf, arrival
 use Rattle.board.proofs.points.Keys.{ascending-head, ascending-rest}
 use Rattle.board.proofs.tick.Commands.{recordsRun, recordsIn, obeyedIn, run-apart, records-first}
 use Rattle.board.proofs.tick.Steps.{members-ascend, foundAt, steppedIn, writtenBy, stepsFrom, steps-apart}
-use Rattle.board.proofs.replay.Replays.{only-append}
+use Rattle.board.proofs.replay.Kinds.{only-append}
 use Rattle.board.proofs.call.Machine.{result-ways}
 
 -- ---- records of another kind
