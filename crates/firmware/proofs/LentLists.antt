@@ -19,17 +19,17 @@ use Rattle.board.specs.declared.call.Advanced.{Advanced}
 use Rattle.board.specs.declared.call.Advanced.the-variants as advance
 use Rattle.board.specs.declared.call.Call.{Call}
 use Rattle.board.specs.declared.call.Call.the-variants as call
-use Rattle.board.specs.Call.{Reply, refused, answered, advancedSaid, saysOf, runCount, gridstep, does, world, Gives}
+use Rattle.board.specs.Call.{Reply, refused, answered, advancedSaid, saysOf, runCount, gridstep, does, world}
 use Rattle.board.specs.Row.{callAt, numbersOf, rowDoes}
 use Rattle.board.specs.Lists.{cutUp}
 use Rattle.board.proofs.row.Replies.{replyIn}
 use Rattle.board.proofs.lists.Answers.{answer-told}
-use Rattle.board.proofs.lists.Replayed.{Step, Trace, nothing, then, Demand3, demand-3, gives-step}
+use Rattle.board.proofs.lists.Replayed.{Step, Trace, nothing, then, Demand3, demand-3, gives-step, advance-said}
 use Rattle.firmware.specs.declared.value.Ending.{Ending}
 use Rattle.firmware.specs.declared.door.Replied.{Replied}
 use Rattle.firmware.specs.Numbers.{numberOf, numberSaid, endingSaid}
 use Rattle.firmware.specs.Door.{RowGives}
-use Rattle.firmware.proofs.Numbering.{result-said, gives-as}
+use Rattle.firmware.proofs.Numbering.{result-numbered, gives-as}
 use Rattle.firmware.proofs.Lent.{promised}
 use Rattle.firmware.proofs.door.gridstep_call.Reads as door-says
 
@@ -176,7 +176,7 @@ module _ (κs : Lfts 1) {cs : List Call} (w : World Board) {xs : List Reply} {u 
   by-mode : (calls : ℤ → Call) (i : ℤ) (code : ℕ) → does (calls i) w .answer ≡ answered (modeResult (w .board) (length (w .log)) i code .answer)
       → Made cs (does (calls i) w .left) xs u → Made (calls i ∷ cs) w (does (calls i) w .answer ∷ xs) u
   by-mode calls i code e t =
-      let s = result-said (w .board) (length (w .log)) i code in (
+      let s = result-numbered (w .board) (length (w .log)) i code in (
         moded calls i (numberOf (modeResult (w .board) (length (w .log)) i code .answer))
             (record { answer-is = s ∙ sym e; board-is = refl; log-is = refl }) (e ∙ sym s) (t .0),
         t .1,
@@ -198,10 +198,9 @@ ending-says (advance.Refused n) = refl
 by-advance : (κs : Lfts 1) {cs : List Call} (w : World Board) {xs : List Reply} {u : World Board} (n : ℤ)
     → Made cs (does (call.Advance n) w .left) xs u → Made (call.Advance n ∷ cs) w (does (call.Advance n) w .answer ∷ xs) u
 by-advance κs w n t =
-    let s : Step (call.Advance n) w (does (call.Advance n) w .answer) (does (call.Advance n) w .left) =
-    gives-step κs (call.Advance n) w (record { answer-is = refl; board-is = refl; log-is = refl }) in
-    let e = ending-says (s .3 .answer) ∙ sym (s .6) in
-    (advanced n (endingOf (s .3 .answer)) (record { answer-is = e; board-is = refl; log-is = refl }) (sym e) (t .0), t .1)
+    let s = advance-said n w in
+    let e = ending-says (s .told) ∙ s .is in
+    (advanced n (endingOf (s .told)) (record { answer-is = e; board-is = refl; log-is = refl }) (sym e) (t .0), t .1)
 
 by-call : (κs : Lfts 1) (c : Call) {cs : List Call} (w : World Board) {xs : List Reply} {u : World Board}
     → Made cs (does c w .left) xs u → Made (c ∷ cs) w (does c w .answer ∷ xs) u

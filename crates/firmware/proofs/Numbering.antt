@@ -23,7 +23,7 @@ use Rattle.board.specs.Call.{Reply, answered, modeDoes, Gives}
 use Rattle.firmware.specs.Numbers.{numberOf, numberSaid}
 
 -- what a mode call answers is said by its number: 3, 7, 1, 2 and 8 are no 0
-result-numbered : (b : Board) (n : ℕ) (track : ℤ) (code : ℕ) →
+pub result-numbered : (b : Board) (n : ℕ) (track : ℤ) (code : ℕ) →
     let a = modeResult b n track code .answer in
     numberSaid (numberOf a) ≡ answered a
 unfolding modeResult decided changesTo
@@ -39,15 +39,6 @@ result-numbered b n track code =
     go : (i : ℕ) (d : Decision) → P (decided b n i d)
     go i (decision.Goes mode) = cond-cases P (leb (b .held + length (callRecords b i mode)) (capacity n)) (λ _. refl) (λ _. refl)
     go i decision.Refused = refl
-
--- a number says what its answer does
-said : (n : ℕ) → answered (answerOf n) ≡ numberSaid n
-said zero = refl
-said (suc n) = refl
-
--- so does the number of what a mode call answers
-pub result-said : (b : Board) (n : ℕ) (track : ℤ) (code : ℕ) → numberSaid (numberOf (modeResult b n track code .answer)) ≡ answered (modeResult b n track code .answer)
-result-said b n track code = sym (said (numberOf (modeResult b n track code .answer))) ∙ ap answered (result-numbered b n track code)
 
 -- answers that say the same have the same number
 same-number : (a b : Answer) → answered a ≡ answered b → numberOf a ≡ numberOf b

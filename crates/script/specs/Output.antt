@@ -3,12 +3,13 @@ use Prim.Native.Nat.{ℕ, zero, suc, _≤_, _<_}
 use mathlib.Core.Path.{_≡_}
 use mathlib.Core.List.{List, [], _∷_, _++_}
 use lib.ListN.{length, take, drop}
-use Rattle.board.specs.Log.{recordWidth, RecordValues, LogReply, unpackOf}
+use Rattle.board.specs.Log.{recordWidth, RecordValues, LogReply, unpackOf, recordValues}
 use Rattle.board.specs.Log as log
 use Rattle.board.specs.Call.{Reply, accepted, refused, done, logFull, clockEnded, clockIs, trackIs, pointIs, countIs}
 use Rattle.script.specs.declared.output.Shown.{Shown}
 use Rattle.script.specs.Bytes.{lf, comma}
 use Rattle.script.specs.Text.{signed, numberThen}
+use Rattle.board.specs.declared.log.Record.{Record}
 
 -- refused,line,number
 abbrev pub refusedLine : ℕ → ℕ → List ℕ
@@ -50,7 +51,7 @@ recordLines (suc n) log = unpackedLine (unpackOf (take recordWidth log)) ++ reco
 -- records, one line each
 abbrev pub lineEach : List Record → List ℕ
 lineEach [] = []
-lineEach (r ∷ rs) = recordLine r ++ lineEach rs
+lineEach (r ∷ rs) = recordLine (recordValues r) ++ lineEach rs
 
 -- what is printed of a line's answer: reasons are 1 LogFull, 2 ClockEnd
 abbrev pub noteOf : ℕ → Reply → List ℕ

@@ -10,8 +10,7 @@ use lib.Seq.{drop-drop, take-all, take-at, drop-at}
 use borrow.Author.Tests.{leb-true, leb-false}
 use Rattle.track.specs.declared.Track.{Track}
 use Rattle.board.specs.declared.log.Record.{Record}
-use Rattle.board.specs.declared.log.Unpacked.the-variants.{Held}
-use Rattle.board.specs.Log.{recordWidth, recordBytes, unpackOf}
+use Rattle.board.specs.Log.{recordWidth, recordBytes, unpackOf, recordIs, recordValues}
 use Rattle.board.specs.Replay.{flat, Each}
 use Rattle.board.proofs.log.Records.{length-record}
 use Rattle.board.specs.declared.call.Told.{Told}
@@ -58,7 +57,7 @@ module _ (s : List ℕ) (at end : ℕ) (within : at ≤ length s) (end-is : end 
   record-next = drop-drop 16 at s ∙ sym (drop-least s (at + 16) end end-is)
 
 -- records whose bytes are the first in the log are shown one line each, if each unpacks to itself
-pub lines-each : (rs : List Record) (rest : List ℕ) → Each (λ r. unpackOf (recordBytes r) ≡ Held r) rs
+pub lines-each : (rs : List Record) (rest : List ℕ) → Each (λ r. unpackOf (recordBytes r) ≡ recordIs (recordValues r)) rs
     → recordLines (length rs) (flat gridstep rs ++ rest) ≡ lineEach rs
 unfolding Each
 lines-each [] rest h = refl
