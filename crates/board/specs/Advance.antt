@@ -5,7 +5,6 @@ use mathlib.Core.Path.{_≡_}
 use mathlib.Core.List.{List}
 use lib.IntN.{ℤ}
 use lib.ListN.{length}
-use lib.IntN.{ℤ}
 use Rattle.track.specs.Rule.{clockEnd}
 use Rattle.board.specs.declared.Board.{Board}
 use Rattle.board.specs.declared.advance.Left.{Left}
@@ -34,7 +33,7 @@ pub record Ended (b : Board) (t : Ran Stop (World Board)) (r : Left) (log : List
 abbrev pub TakesTicks : Board → ℕ → List ℕ → Left → List ℕ → Type 0
 TakesTicks b count log r log′ = Ended b (ticks (w-halt gridstep) (w-step gridstep) count (world b log)) r log′
 
--- ---- How many turns the tick loop can still take (01, "Advance": empty stretches are leapt): told by what is still to be recordsLeft, not by
+-- ---- How many turns the tick loop can still take (01, "Advance": empty stretches are leapt): told by what is still to be written, not by
 -- the ticks still to be taken.
 
 -- the number of tracks that play
@@ -46,7 +45,7 @@ abbrev pub recordsLeft : ℕ → World Board → ℕ
 recordsLeft left u = ticks (w-halt gridstep) (w-step gridstep) left u .end .board .held - u .board .held
 
 -- The measure of the loop `'ticks` of `run` (src/advance.rt), with `left` ticks to do on u, where `look` says whether the next turn
--- looks for a leap: three for each record still to be recordsLeft, one for each track that plays, one if the next turn doesn't look, one
+-- looks for a leap: three for each record still to be written, one for each track that plays, one if the next turn doesn't look, one
 -- if a tick can still be taken.
 abbrev pub turnsLeft : Bool → ℕ → World Board → ℕ
 turnsLeft look left u = 3 * recordsLeft left u + playingCount (u .board) + cond look 0 1 + min 1 (min left (clockEnd - u .board .clock .0))

@@ -77,7 +77,7 @@ pub record Unbroken (b : Board) : Type 0 where
   pub tracks : (i : ℕ) → isPresent (b .present) i ≡ true → Sound (trackAt (b .tracks) i) (b .clock)
   pub count : b .points .count ≤ pointMost
   pub points : (j : ℕ) → j < b .points .count → PointRule (b .present) (b .tracks) (pointAt (b .points) j)
-  -- the form in which the table keeps "at most one for a track and position", which is all that 01 says: the keys ascend strictly
+  -- the keys ascend strictly: so the table keeps "at most one for a track and position", which is all that 01 says
   pub order : ascendingFrom 0 (keysOf (b .points)) ≡ true
 
 -- ---- the same as a test

@@ -1,4 +1,4 @@
--- What every call does with a board and a log: the answers by 01's numbers, and the board as a machine of lists of calls.
+-- What every call does with a board and a log: the answers by 01's numbers, and the rules of the board, as lists of calls use them.
 use Prim.Native.Nat.{ℕ, _+_, _<_}
 use mathlib.Core.Bool.{Bool, true, false, cond}
 use mathlib.Core.Path.{_≡_}
@@ -42,7 +42,7 @@ use Rattle.board.specs.Replay.{Made, Rules, World, wrote, perform}
 use Rattle.board.specs.declared.call.Told.{Told}
 use Rattle.board.specs.declared.call.Told.the-variants as told
 
--- Every field of a track, as this paper has it: positions signed, and the sixteen actions.
+-- Every field of a track, as 01 has it: positions signed, and the sixteen actions.
 pub record TrackValues : Type 0 where
   pub min : ℤ
   pub max : ℤ
@@ -74,7 +74,7 @@ trackValues t =
       actions = t .actions;
     }
 
--- A point, as this paper has it: its position signed, its wait flag 0 or 1.
+-- A point, as 01 has it: its position signed, its wait flag 0 or 1.
 pub record PointValues : Type 0 where
   pub track : ℕ
   pub position : ℤ
@@ -94,7 +94,7 @@ pointValues p =
       target = p .target;
     }
 
--- An answer, by this paper's numbers and values: accepted, a refusal's number, an advance's reason with the ticks taken, or
+-- An answer, by 01's numbers and values: accepted, a refusal's number, an advance's reason with the ticks taken, or
 -- what was asked.
 pub data Reply : Type 0 where
   accepted : Reply

@@ -1,4 +1,4 @@
--- Ticks one by one, runs of advances, and lists of calls that differ only in the cut (01, "Lists of calls"), of any machine.
+-- Ticks one by one, runs of advances, and lists of calls that differ only in the cut (01, "Lists of calls"), of any board.
 use mathlib.Core.Path.{_≡_}
 use mathlib.Core.List.{List, [], _∷_}
 use mathlib.Core.Option.{Option, none, some}
@@ -138,7 +138,7 @@ module _ {C : Type 0} (most : ℕ) (count : C → Option ℕ) (go : ℕ → C) w
   abbrev pub mergedList : List C → List C
   mergedList cs = plains (merge (parts cs))
 
-  -- each run's sum is at most the most
+  -- each run's sum is at most `most`
   abbrev pub Low : List (Part C) → Type 0
   Low [] = Unit {0}
   Low (run n ∷ ps) = (n ≤ most) × Low ps

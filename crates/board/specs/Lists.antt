@@ -1,4 +1,4 @@
--- Lists of calls on the board, their replay (01, "Lists of calls"), and encoded lists (part e of demand 3).
+-- Lists of calls on the board, their replay (01, "Lists of calls"), and encoded lists of calls.
 use Prim.Native.Nat.{ℕ, _/_, min}
 use mathlib.Core.List.{List, []}
 use Rattle.board.specs.declared.Board.{Board}
@@ -30,7 +30,7 @@ replayed cs log = performs (replay gridstep) (cutUp cs) (start log)
 abbrev pub sinceClear : List Call → List ℕ → List Record
 sinceClear cs log = drop (clearedAt gridstep (cutUp cs) (start log) 0) (replayed cs log .last .row)
 
--- ---- What an encoded list of calls does (part e of demand 3).
+-- ---- What an encoded list of calls does.
 
 -- as many rows are executed as both have room for: whole calls, and whole replies
 abbrev pub rowsBoth : List ℤ → List ℕ → ℕ

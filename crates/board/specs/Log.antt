@@ -39,7 +39,7 @@ detailUnit = 16
 unfoldable pub kindTest : ℕ → Bool
 kindTest k = leb 1 k && leb k 3
 
--- a number in two's complement of 4 bytes, and the number that a word of 4 bytes is in it: from 2,147,483,648 on a negative one
+-- a number as a word of 4 bytes in two's complement; and back, where a word from 2,147,483,648 on is negative
 unfoldable pub twosOf : ℤ → ℕ
 twosOf (pos k) = k
 twosOf (negsuc k) = 4294967296 - suc k
@@ -47,11 +47,11 @@ twosOf (negsuc k) = 4294967296 - suc k
 unfoldable pub signedOf : ℕ → ℤ
 signedOf w = cond (ltb w 2147483648) (pos w) (negsuc (4294967295 - w))
 
--- the position of a record, any of 4 bytes, by its coordinate, which wraps: from 2,148,483,648 on a negative one
+-- the position that a record's coordinate stands for: less 1,000,000, and from 2,148,483,648 on less 4,294,967,296 more
 unfoldable pub positionOf : Coordinate → ℤ
 positionOf c = cond (ltb (c .0) 2148483648) (valueOf c) (negsuc (4295967295 - c .0))
 
--- A record, as this paper has it: its position signed.
+-- A record, as 01 has it: its position signed.
 pub record RecordValues : Type 0 where
   pub clock : ℕ
   pub track : ℕ
@@ -94,7 +94,7 @@ spelled s =
       passes = fromLe (take 4 (drop 12 s));
     }
 
--- An answer to packing or unpacking, by this paper's numbers and values: packed, a record, or a refusal's number.
+-- An answer to packing or unpacking, by 01's numbers and values: packed, a record, or a refusal's number.
 pub data LogReply : Type 0 where
   packed : LogReply
   recordIs : RecordValues → LogReply

@@ -63,7 +63,7 @@ modeResult b n track call =
     (declined 7 b))
     (declined 3 b)
 
--- the outcome on b of what a call comes to: one track put in its place, and the number of records held
+-- the board b after a mode call that came to r, and the answer: one track put in its place, and the number of records held
 abbrev pub outcomeOf : Board → ModeChange → Outcome
 outcomeOf b r =
     record { answer = r .answer; board = boardWith b (set (b .tracks) (r .at) (r .track)) (b .present) (b .points) (r .held) }

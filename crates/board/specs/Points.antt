@@ -32,8 +32,8 @@ keyEnd = stride * trackCount
 unfoldable pub keyOf : Point → ℕ
 keyOf p = key (p .track) (p .position .0)
 
--- What else a point has is one number, its info: event + waitUnit wait + commandUnit command + targetUnit target. An info is never
--- 0, so that 0 says that there is no point.
+-- What else a point has is one number, its info: event + waitUnit × wait + commandUnit × command + targetUnit × target. An
+-- info is never 0, so that 0 says that there is no point.
 abbrev pub waitUnit : ℕ
 waitUnit = 65536
 

@@ -27,7 +27,7 @@ NonzeroInfos ks ds = (k : ℕ) → hasKey k ks ≡ true → infoAt k ks ds ≡ 0
 abbrev pub reaches : List ℕ → ℕ → Track → Bool
 reaches ks i t = hasKey (key i (arrival t)) ks
 
--- it does, or it stops the track
+-- the next step reaches a point of its own, or stops the track
 unfoldable pub endsQuiet : List ℕ → ℕ → Track → Bool
 endsQuiet ks i t = stops t || reaches ks i t
 

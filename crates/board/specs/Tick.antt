@@ -92,7 +92,7 @@ stepRecords clock i t d =
 abbrev pub reachedBy : ℕ → List ℕ
 reachedBy d = cond (eqb d 0) [] (d ∷ [])
 
--- a step after which commands are to run, or other tracks play: its point has a command, or the track plays no more
+-- a step after which a command is to run, or the word of playing tracks changes: its point has a command, or the track plays no more
 abbrev pub needsMore : ℕ → ℕ → Bool
 needsMore d mode = not (eqb (commandOf d) 0) || not (eqb mode PLAYING)
 
@@ -150,7 +150,7 @@ tickOf b = tickFrom (keysOf (b .points)) (infosOf (b .points)) (b .clock .0 + 1)
 
 -- ---- what the parts of a tick may rely on
 
--- an info is none, or one that keeps the rules of a point
+-- an info whose event, command and target are in their ranges; 0, which is no point, is one
 pub record InfoRule (d : ℕ) : Type 0 where
   pub event : eventOf d ≤ eventMost
   pub command : commandOf d ≤ 4

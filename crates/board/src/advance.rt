@@ -38,7 +38,7 @@ pub struct Left {
 }
 
 // So many ticks of an unbroken board, given by its parts, unless the clock or the log ends them. Each turn leaps the quiet ticks
-// ahead and walks the one behind them; a tick with records is followed at once by the next.
+// ahead and walks the one behind them; after a tick with records the next is walked without looking for a leap.
 fn run<'a>(
     given: [Track; Board::TRACKS],
     present: u16,

@@ -200,7 +200,7 @@ fn no_call(b: Board) -> Applied
     }
 }
 
-// What a row comes to, done.
+// Does the call that a row is; a row that is no call is refused 9.
 pub fn answer(b: Board, row: Coded, log: &mut [u8]) -> Applied
     ensures { λ r. ⌜ Gives (rowDoes (codedAs row) (world b (now (log .entry)))) (replyOf (r .told) (r .track)) (r .board) (now (log .exit)) ⌝ }
 {

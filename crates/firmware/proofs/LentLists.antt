@@ -78,11 +78,19 @@ door-refuses zs w {numbers} {v} e d = subst (λ (o : Option Call). Comes o w num
 
 -- ---- lists of calls
 
--- A list of calls: each mode call and each advance by what its function over the lent board promises (`spec-of` shows that the code
--- keeps it), any call by the contract of the door or of its function by value. A row that is no call is none of the list.
+-- one of the four mode calls
+pub data ModeCall : (ℤ → Call) → Type 0 where
+  plays : ModeCall call.Play
+  pauses : ModeCall call.Pause
+  resumes : ModeCall call.Resume
+  stops : ModeCall call.Stop
+
+-- A list of calls: each mode call and each advance by what its function over the lent board promises (`promised`; the function's own
+-- proof shows that its code keeps it), any call by the contract of the door or of its function by value. A row that is no call does not
+-- count as a call of the list.
 pub data Lending : List Call → World Board → List Reply → World Board → Type 0 where
   ended : {w : World Board} → Lending [] w [] w
-  moded : (calls : ℤ → Call) (i : ℤ) (number : ℕ) {cs : List Call} {w v u : World Board} {a : Reply} {xs : List Reply}
+  moded : {calls : ℤ → Call} → ModeCall calls → (i : ℤ) (number : ℕ) {cs : List Call} {w v u : World Board} {a : Reply} {xs : List Reply}
       → promised calls numberSaid (w .board) i (w .log) (v .board) number (v .log) → a ≡ numberSaid number → Lending cs v xs u
       → Lending (calls i ∷ cs) w (a ∷ xs) u
   advanced : (count : ℤ) (ending : Ending) {cs : List Call} {w v u : World Board} {a : Reply} {xs : List Reply}
@@ -98,7 +106,7 @@ pub data Lending : List Call → World Board → List Reply → World Board → 
 -- it is a list of calls as demand 3 speaks of
 pub lent-trace : Lfts 1 → {cs : List Call} {w u : World Board} {xs : List Reply} → Lending cs w xs u → Trace cs w xs u
 lent-trace κs ended = nothing
-lent-trace κs (moded calls i number {w = w} p e t) = then (gives-step κs (calls i) w (gives-as e p)) (lent-trace κs t)
+lent-trace κs (moded {calls = calls} m i number {w = w} p e t) = then (gives-step κs (calls i) w (gives-as e p)) (lent-trace κs t)
 lent-trace κs (advanced count ending {w = w} p e t) = then (gives-step κs (call.Advance count) w (gives-as e p)) (lent-trace κs t)
 lent-trace κs (opened zs {c = c} {w = w} e d q t) =
     let l = door-does zs w e d in
@@ -124,7 +132,7 @@ lent-demand-3 κs t = demand-3 (lent-trace κs t)
 -- no call is by value
 abbrev pub FromC : {cs : List Call} {w u : World Board} {xs : List Reply} → Lending cs w xs u → Type 0
 FromC ended = Unit {0}
-FromC (moded calls i number p e t) = FromC t
+FromC (moded m i number p e t) = FromC t
 FromC (advanced count ending p e t) = FromC t
 FromC (opened zs e d q t) = FromC t
 FromC (uncalled zs e d t) = FromC t
@@ -173,11 +181,11 @@ module _ (κs : Lfts 1) {cs : List Call} (w : World Board) {xs : List Reply} {u 
   by-door {c} z t = (opened (z .0) (z .1) (opens κs (z .0) c w (z .1)) (sym (answer-told c w)) (t .0), t .1)
 
   -- a mode call
-  by-mode : (calls : ℤ → Call) (i : ℤ) (code : ℕ) → does (calls i) w .answer ≡ answered (modeResult (w .board) (length (w .log)) i code .answer)
+  by-mode : {calls : ℤ → Call} → ModeCall calls → (i : ℤ) (code : ℕ) → does (calls i) w .answer ≡ answered (modeResult (w .board) (length (w .log)) i code .answer)
       → Made cs (does (calls i) w .left) xs u → Made (calls i ∷ cs) w (does (calls i) w .answer ∷ xs) u
-  by-mode calls i code e t =
+  by-mode m i code e t =
       let s = result-numbered (w .board) (length (w .log)) i code in (
-        moded calls i (numberOf (modeResult (w .board) (length (w .log)) i code .answer))
+        moded m i (numberOf (modeResult (w .board) (length (w .log)) i code .answer))
             (record { answer-is = s ∙ sym e; board-is = refl; log-is = refl }) (e ∙ sym s) (t .0),
         t .1,
       )
@@ -209,10 +217,10 @@ by-call κs (call.AddTrack i lo hi) w t = by-door κs w (pos 1 ∷ i ∷ lo ∷ 
 by-call κs (call.SetUp i c) w t = by-door κs w (rowed i c) t
 by-call κs (call.SetPoint i p e f c g) w t = by-door κs w (pos 7 ∷ i ∷ p ∷ e ∷ f ∷ c ∷ g ∷ [], refl) t
 by-call κs (call.DropPoint i p) w t = by-door κs w (pos 8 ∷ i ∷ p ∷ [], refl) t
-by-call κs (call.Play i) w t = by-mode κs w call.Play i PLAY refl t
-by-call κs (call.Pause i) w t = by-mode κs w call.Pause i PAUSE refl t
-by-call κs (call.Resume i) w t = by-mode κs w call.Resume i RESUME refl t
-by-call κs (call.Stop i) w t = by-mode κs w call.Stop i STOP refl t
+by-call κs (call.Play i) w t = by-mode κs w plays i PLAY refl t
+by-call κs (call.Pause i) w t = by-mode κs w pauses i PAUSE refl t
+by-call κs (call.Resume i) w t = by-mode κs w resumes i RESUME refl t
+by-call κs (call.Stop i) w t = by-mode κs w stops i STOP refl t
 by-call κs (call.Advance n) w t = by-advance κs w n t
 by-call κs call.Clear w t = by-door κs w (pos 16 ∷ [], refl) t
 by-call κs call.Clock w t = by-door κs w (pos 17 ∷ [], refl) t

@@ -28,7 +28,7 @@ numberSaid (suc n) = refused (suc n)
 abbrev pub boardBy : Board → Answered → Board
 boardBy b r = boardWith b (set (b .tracks) (r .at) (r .track)) (b .present) (b .points) (r .held)
 
--- an advance's: its reason, 0 Done, 1 LogFull, 2 ClockEnd, with the ticks taken, 3 a refusal, with its number; any other reason says
+-- an advance's answer: its reason, 0 Done, 1 LogFull, 2 ClockEnd, with the ticks taken, 3 a refusal, with its number; any other reason says
 -- what no advance answers
 abbrev pub reasonSaid : ℕ → ℕ → Reply
 reasonSaid zero n = done n

@@ -1,4 +1,4 @@
-// The same calls on a board that is given by its parts, with answers that are numbers.
+// The mode calls on a board that is given by its parts, with answers that are numbers.
 use board::Board;
 use board::call::Advanced;
 use board::mode::change_mode;

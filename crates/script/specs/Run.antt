@@ -64,7 +64,7 @@ pub record Starts (x : Session) : Type 0 where
   pub line-is : x .reader .line ≡ 1
   pub board-is : x .board ≡ freshBoard
 
--- A session has gone on from where s was to be read to where s′ is: this text was printed, and what is left comes to the same.
+-- x with s to read prints `text`, then what y with s′ to read prints; both end with the same board, log, open line and line number.
 pub record Goes (x : Session) (s log text : List ℕ) (y : Session) (s′ log′ : List ℕ) : Type 0 where
   pub text-is : notesIn x s log ≡ text ++ notesIn y s′ log′
   pub left-is : doneIn x s log .last ≡ doneIn y s′ log′ .last

@@ -124,7 +124,7 @@ entered t mode = cond (eqb mode STOPPED) (stopped t) (moved t mode (t .position 
 abbrev pub actionCell : Track → ℕ → ℕ → ℕ
 actionCell t from to = getD (t .actions) (from * 4 + to) 0
 
--- Bounds min < max, each from -1,000,000 to 1,000,000; min ≤ start < end ≤ max; a position from start to end.
+-- Bounds min < max, each from -1,000,000, whose coordinate is 0, to 1,000,000; min ≤ start < end ≤ max; a position from start to end.
 pub record Ordered (min max start end position : ℕ) : Type 0 where
   pub bounds : min < max
   pub last : max ≤ coordinateLast

@@ -35,7 +35,7 @@ pub struct Track {
     pub mode: u8,
     // 0 forward, 1 backward.
     pub direction: u8,
-    // 0 or 1, as the next: a byte, since C can lend any.
+    // 0 or 1; a byte, like `due`, since C can lend any value.
     pub repeat: u8,
     // The position is not yet visited.
     pub due: u8,

@@ -1,4 +1,4 @@
-// The numbers of a call, from i64 to what a track keeps. But for the numbers of script lines, signed numbers stand nowhere else.
+// The numbers of a call, from i64 to what a track keeps: only here are a call's signed numbers worked on.
 use crate::Coordinate;
 ghost use mathlib.Core.Path.{_≡_};
 ghost use Rattle.track.specs.Number.{naturalOf, coordinateOf, within, valueOf, clampedOf};
