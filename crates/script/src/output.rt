@@ -11,7 +11,7 @@ ghost use Rattle.track.specs.declared.Track.{Track};
 ghost use Rattle.board.specs.Call.{replyOf};
 ghost use Rattle.script.specs.Output.{refusedLine, shortLine, endLine, recordHead, recordLine, noteOf, unpackedLine, Shows};
 ghost use Rattle.script.specs.Text.{textOf};
-ghost use Rattle.board.specs.Log.{recordValues, unpackOf};
+ghost use Rattle.board.specs.Log.{recordWidth, recordValues, unpackOf};
 
 pub fn refused_line(line: u64, number: u8) -> Out
     ensures { λ r. ⌜ textOf r ≡ refusedLine line number ⌝ }
@@ -110,7 +110,7 @@ fn least(a: usize, b: usize) -> usize
 // The place behind a record, at most the end.
 fn behind(at: usize, end: usize) -> usize
     requires { ⌜ at ≤ end ⌝ }
-    ensures { λ r. ⌜ r ≡ min (at + 16) end ⌝ }
+    ensures { λ r. ⌜ r ≡ min (at + recordWidth) end ⌝ }
 {
     if end - at < Record::WIDTH {
         return end;

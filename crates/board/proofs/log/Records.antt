@@ -150,7 +150,7 @@ unpack-pack r k hc hp hs =
     (refused 3))
 
 -- packing the record that 16 bytes spell gives those bytes
-pub pack-unpack : (s : List ℕ) → length s ≡ 16 → ((i : ℕ) → getD s i 0 < 256) → bytesOf (spelled s) ≡ s
+pub pack-unpack : (s : List ℕ) → length s ≡ recordWidth → ((i : ℕ) → getD s i 0 < 256) → bytesOf (spelled s) ≡ s
 unfolding bytesOf spelled
 pack-unpack s l small =
     let h : take 4 (drop 4 s) ≡ getD s 4 0 ∷ getD s 5 0 ∷ getD s 6 0 ∷ getD s 7 0 ∷ [] = ap (take 4) (next-four s 4 (omega arith)) in
@@ -168,17 +168,17 @@ and-false false h = refl
 -- another length than 16 is refused 3
 pub unpack-refuses-length : (s : List ℕ) → (length s ≡ recordWidth → ⊥) → unpackOf s ≡ refused 3
 unfolding unpackOf
-unpack-refuses-length s h = simp (ne-eqb (length s) 16 h)
+unpack-refuses-length s h = simp (ne-eqb (length s) recordWidth h)
 
 -- another kind than 1 to 3 is refused 3
 pub unpack-refuses-kind : (s : List ℕ) → kindTest (getD s 5 0) ≡ false → unpackOf s ≡ refused 3
 unfolding unpackOf
-unpack-refuses-kind s h = ap (λ (b : Bool). cond b (recordIs (spelled s)) (refused 3)) (and-false (eqb (length s) 16) h)
+unpack-refuses-kind s h = ap (λ (b : Bool). cond b (recordIs (spelled s)) (refused 3)) (and-false (eqb (length s) recordWidth) h)
 
 -- 16 bytes of kind 1 to 3 are the record that they spell
 pub unpack-holds : (s : List ℕ) → length s ≡ recordWidth → kindTest (getD s 5 0) ≡ true → unpackOf s ≡ recordIs (spelled s)
 unfolding unpackOf
-unpack-holds s l k = simp (eq-eqb (length s) 16 l, k)
+unpack-holds s l k = simp (eq-eqb (length s) recordWidth l, k)
 
 -- a record that unpacking holds has the values that the bytes spell
 module _ (r : Record) (s : List ℕ) (says : unpackSaid (Held r) ≡ unpackOf s) where
@@ -214,12 +214,12 @@ module _ (r : Record) (s : List ℕ) (at : ℕ) where
 
   -- and so is a record that doesn't fit there
   pub pack-refuses-room : length s < at + recordWidth → (packAnswer r s at ≡ refused 3) × (packBytes r s at ≡ s)
-  pack-refuses-room h = by-test (and-false (kindTest (r .kind)) (lt-leb (at + 16) (length s) h))
+  pack-refuses-room h = by-test (and-false (kindTest (r .kind)) (lt-leb (at + recordWidth) (length s) h))
 
   -- every other record is packed
   pub pack-accepts : kindTest (r .kind) ≡ true → at + recordWidth ≤ length s
       → (packAnswer r s at ≡ packed) × (packBytes r s at ≡ writeAt s at (recordBytes r))
-  pack-accepts k h = by-test (λ i. k i && le-leb (at + 16) (length s) h i)
+  pack-accepts k h = by-test (λ i. k i && le-leb (at + recordWidth) (length s) h i)
 
   -- ---- what packing leaves
 
@@ -264,7 +264,7 @@ module _ (r : Record) (s : List ℕ) (at : ℕ) where
 -- ---- what the code writes
 
 -- a record is written in four parts
-pub four-writes : (xs l₁ l₂ l₃ l₄ : List ℕ) (at w : ℕ) (r : Record) → at + 16 ≤ length xs → w ≡ twosOf (positionOf (r .position))
+pub four-writes : (xs l₁ l₂ l₃ l₄ : List ℕ) (at w : ℕ) (r : Record) → at + recordWidth ≤ length xs → w ≡ twosOf (positionOf (r .position))
     → l₁ ≡ writeAt xs at (le 4 (r .clock .0)) → l₂ ≡ writeAt l₁ (at + 4) (middle r) → l₃ ≡ writeAt l₂ (at + 8) (le 4 w)
     → l₄ ≡ writeAt l₃ (at + 12) (le 4 (r .passes .0)) → l₄ ≡ writeAt xs at (recordBytes r)
 unfolding recordBytes bytesOf le

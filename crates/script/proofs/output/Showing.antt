@@ -39,22 +39,22 @@ drop-least s n k e = go (leb n (length s)) refl
         let h = leb-false n (length s) q in
         drop-of-length-le s {i = k} (omega arith) ∙ sym (drop-of-length-le s {i = n} (omega arith))
 
-module _ (s : List ℕ) (at end : ℕ) (within : at ≤ length s) (end-is : end ≡ min (at + 16) (length s)) where
-  record-at : take (end - at) (drop at s) ≡ take 16 (drop at s)
-  record-at = go (leb (at + 16) (length s)) refl
+module _ (s : List ℕ) (at end : ℕ) (within : at ≤ length s) (end-is : end ≡ min (at + recordWidth) (length s)) where
+  record-at : take (end - at) (drop at s) ≡ take recordWidth (drop at s)
+  record-at = go (leb (at + recordWidth) (length s)) refl
     where
-      go : (t : Bool) → leb (at + 16) (length s) ≡ t → take (end - at) (drop at s) ≡ take 16 (drop at s)
+      go : (t : Bool) → leb (at + recordWidth) (length s) ≡ t → take (end - at) (drop at s) ≡ take recordWidth (drop at s)
       go true q =
-          let h = leb-true (at + 16) (length s) q in
-          let z : end - at ≡ 16 = omega arith in
+          let h = leb-true (at + recordWidth) (length s) q in
+          let z : end - at ≡ recordWidth = omega arith in
           ap (λ (j : ℕ). take j (drop at s)) z
       go false q =
-          let h = leb-false (at + 16) (length s) q in
+          let h = leb-false (at + recordWidth) (length s) q in
           let l = length-drop at s in
-          take-all (end - at) (drop at s) (omega arith) ∙ sym (take-all 16 (drop at s) (omega arith))
+          take-all (end - at) (drop at s) (omega arith) ∙ sym (take-all recordWidth (drop at s) (omega arith))
 
-  record-next : drop 16 (drop at s) ≡ drop end s
-  record-next = drop-drop 16 at s ∙ sym (drop-least s (at + 16) end end-is)
+  record-next : drop recordWidth (drop at s) ≡ drop end s
+  record-next = drop-drop recordWidth at s ∙ sym (drop-least s (at + recordWidth) end end-is)
 
 -- records whose bytes are the first in the log are shown one line each, if each unpacks to itself
 pub lines-each : (rs : List Record) (rest : List ℕ) → Each (λ r. unpackOf (recordBytes r) ≡ recordIs (recordValues r)) rs
@@ -69,22 +69,22 @@ lines-each (r ∷ rs) rest h =
     ∙ (λ i. unpackedLine (unpackOf (take-at (recordBytes r) more recordWidth l i)) ++ recordLines (length rs) (drop-at (recordBytes r) more recordWidth l i))
     ∙ (λ i. unpackedLine (h .0 i) ++ lines-each rs rest (h .1) i)
 
-lines-next : (n : ℕ) (s : List ℕ) → 0 < n → recordLines n s ≡ unpackedLine (unpackOf (take 16 s)) ++ recordLines (n - 1) (drop 16 s)
+lines-next : (n : ℕ) (s : List ℕ) → 0 < n → recordLines n s ≡ unpackedLine (unpackOf (take recordWidth s)) ++ recordLines (n - 1) (drop recordWidth s)
 lines-next zero s h = absurd (omega arith)
 lines-next (suc n) s h =
     let z : suc n - 1 ≡ n = omega arith in
-    ap (λ (k : ℕ). unpackedLine (unpackOf (take 16 s)) ++ recordLines k (drop 16 s)) (sym z)
+    ap (λ (k : ℕ). unpackedLine (unpackOf (take recordWidth s)) ++ recordLines k (drop recordWidth s)) (sym z)
 
 -- one record more is written
-pub shown-next : {all : List ℕ} (s out out′ : List ℕ) (at end left used used′ : ℕ) (o : Out) → at ≤ length s → end ≡ min (at + 16) (length s) → 0 < left →
+pub shown-next : {all : List ℕ} (s out out′ : List ℕ) (at end left used used′ : ℕ) (o : Out) → at ≤ length s → end ≡ min (at + recordWidth) (length s) → 0 < left →
     all ≡ take used out ++ recordLines left (drop at s) → textOf o ≡ unpackedLine (unpackOf (take (end - at) (drop at s))) →
     Wrote (textOf o) used out used′ out′ → all ≡ take used′ out′ ++ recordLines (left - 1) (drop end s)
 shown-next s out out′ at end left used used′ o h q p e t w =
-    let text = unpackedLine (unpackOf (take 16 (drop at s))) in
+    let text = unpackedLine (unpackOf (take recordWidth (drop at s))) in
     let here = sym (record-at s at end h q) in
     let next = record-next s at end h q in
     e
     ∙ ap (λ (x : List ℕ). take used out ++ x) (lines-next left (drop at s) p)
-    ∙ sym (append-assoc (take used out) text (recordLines (left - 1) (drop 16 (drop at s))))
+    ∙ sym (append-assoc (take used out) text (recordLines (left - 1) (drop recordWidth (drop at s))))
     ∙ (λ i. take used out ++ unpackedLine (unpackOf (here i)) ++ recordLines (left - 1) (next i))
     ∙ ap (λ (x : List ℕ). x ++ recordLines (left - 1) (drop end s)) (ap (λ (x : List ℕ). take used out ++ x) (sym t) ∙ sym (w .text-is))
