@@ -11,6 +11,7 @@ use track::Passes;
 use track::Ticks;
 use track::setup::Answer;
 ghost use Prim.Native.Nat.{_≤_};
+ghost use Rattle.board.specs.Row.{replyWidth};
 
 // Bytes as they are.
 pub fn text(bytes: &[u8]) {
@@ -40,12 +41,12 @@ fn next_place(k: u64) {
 
 // How many numbers a reply of a kind has.
 fn width(kind: u64) -> usize
-    ensures { λ r. ⌜ r ≤ 28 ⌝ }
+    ensures { λ r. ⌜ r ≤ replyWidth ⌝ }
 {
     match kind {
         0 => 1,
         5 => 3,
-        6 => 28,
+        6 => REPLY_WIDTH,
         7 => 7,
         _ => 2,
     }
@@ -118,7 +119,7 @@ fn record_line(r: Record) {
     text(b"\n");
 }
 
-// The line of 16 bytes of a log.
+// The line of the bytes of one record.
 fn packed(bytes: &[u8]) {
     match unpack(bytes) {
         Unpacked::Held(r) => record_line(r),
@@ -131,11 +132,11 @@ fn records(log: &[u8], held: u64) {
     let mut left = held;
     let mut at: usize = 0;
     while 0 < left {
-        if log.len() - at < 16 {
+        if log.len() - at < Record::WIDTH {
             return;
         }
-        packed(&log[at..at + 16]);
-        at += 16;
+        packed(&log[at..at + Record::WIDTH]);
+        at += Record::WIDTH;
         left -= 1;
     }
 }

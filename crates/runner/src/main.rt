@@ -12,6 +12,7 @@ ghost use Prim.Native.Nat.{_≤_};
 ghost use mathlib.Core.List.{[]};
 ghost use lib.ListN.{length};
 ghost use Rattle.script.specs.Run.{Went};
+ghost use Rattle.script.specs.Text.{lineRoom};
 
 // Prints the first bytes of a buffer.
 fn print(out: &[u8], used: usize)
@@ -22,7 +23,7 @@ fn print(out: &[u8], used: usize)
 
 // Prints a line.
 fn print_line(o: Out, out: &mut [u8])
-    requires { ⌜ 160 ≤ length (now out) ⌝ }
+    requires { ⌜ lineRoom ≤ length (now out) ⌝ }
 {
     let used = o.write(out, 0);
     print(out, used);
@@ -30,7 +31,7 @@ fn print_line(o: Out, out: &mut [u8])
 
 // Takes in a piece of the input; what it prints is printed before the next is read.
 fn take_in(x: Session, piece: &[u8], log: &mut [u8], out: &mut [u8]) -> Session
-    requires { ⌜ 160 ≤ length (now out) ⌝ }
+    requires { ⌜ lineRoom ≤ length (now out) ⌝ }
     ensures { λ r. ⌜ Went x (now (piece .entry)) (now (log .entry)) r [] (now (log .exit)) ⌝ }
 {
     let mut session = x;
@@ -52,7 +53,7 @@ struct Turn {
 
 // Reads a piece and takes it in.
 fn read_piece(x: Session, piece: &mut [u8], log: &mut [u8], out: &mut [u8]) -> Turn
-    requires { ⌜ 160 ≤ length (now out) ⌝ }
+    requires { ⌜ lineRoom ≤ length (now out) ⌝ }
 {
     let got = libc::read(STDIN_FILENO, piece);
     let n = io::count(got, piece);
@@ -71,7 +72,7 @@ fn read_piece(x: Session, piece: &mut [u8], log: &mut [u8], out: &mut [u8]) -> T
 
 // Reads the input to its end: 64 bits count more pieces than any input has.
 fn take_all(piece: &mut [u8], log: &mut [u8], out: &mut [u8]) -> Session
-    requires { ⌜ 160 ≤ length (now out) ⌝ }
+    requires { ⌜ lineRoom ≤ length (now out) ⌝ }
 {
     let mut session = Session::new();
     let mut turns: u64 = 18446744073709551615;
@@ -88,7 +89,7 @@ fn take_all(piece: &mut [u8], log: &mut [u8], out: &mut [u8]) -> Session
 
 // Prints the held records.
 fn print_records(held: u64, log: &[u8], out: &mut [u8])
-    requires { ⌜ 160 ≤ length (now out) ⌝ }
+    requires { ⌜ lineRoom ≤ length (now out) ⌝ }
 {
     let mut at: usize = 0;
     let mut left = held;

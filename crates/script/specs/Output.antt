@@ -8,7 +8,7 @@ use Rattle.board.specs.Log as log
 use Rattle.board.specs.Call.{Reply, accepted, refused, done, logFull, clockEnded, clockIs, trackIs, pointIs, countIs}
 use Rattle.script.specs.declared.output.Shown.{Shown}
 use Rattle.script.specs.Bytes.{lf, comma}
-use Rattle.script.specs.Text.{signed, numberThen}
+use Rattle.script.specs.Text.{lineRoom, signed, numberThen}
 use Rattle.board.specs.declared.log.Record.{Record}
 
 -- refused,line,number
@@ -72,4 +72,4 @@ pub record Shows (log : List ℕ) (at left : ℕ) (r : Shown) (out out′ : List
   pub text-is : recordLines left (drop at log) ≡ take (r .used) out′ ++ recordLines (r .left) (drop (r .at) log)
   pub within : r .used ≤ length out
   pub long : length out′ ≡ length out
-  pub further : 160 ≤ length out → 0 < left → r .left < left
+  pub further : lineRoom ≤ length out → 0 < left → r .left < left

@@ -14,7 +14,7 @@ use Rattle.board.specs.Row.{rowsDo}
 use Rattle.script.specs.Lines.{linesOf, numberAfter, numberBehind, linesIn, openAfter, lastLine, keptBy}
 use Rattle.script.specs.Grammar.{lineCall}
 use Rattle.script.specs.Output.{noteOf, recordLines, endLine}
-use Rattle.script.specs.Text.{textOf}
+use Rattle.script.specs.Text.{lineRoom, textOf}
 use Rattle.script.specs.declared.run.Session.{Session}
 use Rattle.script.specs.declared.run.Fed.{Fed}
 use Rattle.script.specs.declared.run.Ended.{Ended}
@@ -81,7 +81,7 @@ pub record Went (x : Session) (s log : List ℕ) (y : Session) (s′ log′ : Li
 pub record Feeds (x : Session) (piece : List ℕ) (at : ℕ) (log out : List ℕ) (r : Fed) (log′ out′ : List ℕ) : Type 0 where
   pub goes : Goes x (drop at piece) log (take (r .used) out′) (r .session) (drop (r .next) piece) log′
   pub within : r .used ≤ length out
-  pub further : 160 ≤ length out → at < length piece → at < r .next
+  pub further : lineRoom ≤ length out → at < length piece → at < r .next
 
 -- The input has ended: the line that was open is done, if there is one, and what it prints is noted.
 pub record Ends (x : Session) (log : List ℕ) (r : Ended) (log′ : List ℕ) : Type 0 where

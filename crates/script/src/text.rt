@@ -5,19 +5,24 @@ ghost use mathlib.Core.List.{[], _∷_, _++_};
 ghost use Prim.Native.Nat.{_+_, _-_, _≤_, _<_};
 ghost use lib.ListN.{length, drop};
 ghost use Rattle.board.specs.Log.{positionOf};
-ghost use Rattle.script.specs.Text.{decimal, numberThen, signed, textOf, IsDecimal, Adds, Wrote};
+ghost use Rattle.script.specs.Text.{digitsMost, lineRoom, decimal, numberThen, signed, textOf, IsDecimal, Adds, Wrote};
 
 // The digits of a number, from a place of the array on.
 pub struct Digits {
-    pub bytes: [u8; 20],
+    pub bytes: [u8; Digits::MOST],
     pub from: usize,
+}
+
+impl Digits {
+    // Digits of a number of 64 bits at most.
+    const MOST: usize = 20;
 }
 
 fn digits_of(n: u64) -> Digits
     ensures { λ r. ⌜ IsDecimal n r ⌝ }
 {
-    let mut bytes = [0u8; 20];
-    let mut i: usize = 20;
+    let mut bytes = [0u8; Digits::MOST];
+    let mut i: usize = Digits::MOST;
     let mut v = n;
     while 10 <= v {
         i -= 1;
@@ -49,7 +54,7 @@ impl Out {
     }
 
     fn push(self, b: u8) -> Out
-        requires { ⌜ self .length < 160 ⌝ }
+        requires { ⌜ self .length < lineRoom ⌝ }
         ensures { λ r. ⌜ Adds self (b ∷ []) 1 r ⌝ }
     {
         let mut o = self;
@@ -61,7 +66,7 @@ impl Out {
 
     // The bytes from a place on.
     pub(crate) fn push_from(self, s: &[u8], from: usize) -> Out
-        requires { ⌜ (from ≤ length (now s)) × (self .length + (length (now s) - from) ≤ 160) ⌝ }
+        requires { ⌜ (from ≤ length (now s)) × (self .length + (length (now s) - from) ≤ lineRoom) ⌝ }
         ensures { λ r. ⌜ Adds self (drop from (now (s .entry))) (length (now (s .entry)) - from) r ⌝ }
     {
         let mut o = self;
@@ -77,8 +82,8 @@ impl Out {
     }
 
     fn push_number(self, n: u64) -> Out
-        requires { ⌜ self .length ≤ 140 ⌝ }
-        ensures { λ r. ⌜ Adds self (decimal n) 20 r ⌝ }
+        requires { ⌜ self .length + digitsMost ≤ lineRoom ⌝ }
+        ensures { λ r. ⌜ Adds self (decimal n) digitsMost r ⌝ }
     {
         let d = digits_of(n);
         let from = d.from;
@@ -87,8 +92,8 @@ impl Out {
 
     // A number and the byte behind it.
     pub(crate) fn number(self, n: u64, b: u8) -> Out
-        requires { ⌜ self .length ≤ 139 ⌝ }
-        ensures { λ r. ⌜ Adds self (numberThen n b) 21 r ⌝ }
+        requires { ⌜ self .length + digitsMost + 1 ≤ lineRoom ⌝ }
+        ensures { λ r. ⌜ Adds self (numberThen n b) (digitsMost + 1) r ⌝ }
     {
         let o = self.push_number(n);
         o.push(b)
@@ -96,8 +101,8 @@ impl Out {
 
     // The position of a coordinate, which wraps in four bytes, and a comma.
     pub(crate) fn position(self, c: Coordinate) -> Out
-        requires { ⌜ self .length ≤ 138 ⌝ }
-        ensures { λ r. ⌜ Adds self (signed (positionOf c) ++ (44 ∷ [])) 22 r ⌝ }
+        requires { ⌜ self .length + digitsMost + 2 ≤ lineRoom ⌝ }
+        ensures { λ r. ⌜ Adds self (signed (positionOf c) ++ (44 ∷ [])) (digitsMost + 2) r ⌝ }
     {
         let k = c.0 as u64;
         if k < 1000000 {
@@ -113,7 +118,7 @@ impl Out {
 
     // The line goes into a buffer behind what is there; the place behind it.
     pub fn write(self, out: &mut [u8], used: usize) -> usize
-        requires { ⌜ used + 160 ≤ length (now out) ⌝ }
+        requires { ⌜ used + lineRoom ≤ length (now out) ⌝ }
         ensures { λ r. ⌜ Wrote (textOf self) used (now (out .entry)) r (now (out .exit)) ⌝ }
     {
         let mut i: usize = 0;

@@ -21,7 +21,7 @@ use Rattle.board.specs.Call.{Reply, refused, gridstep, does, world}
 use Rattle.board.proofs.call.Machine.{counts}
 use Rattle.board.proofs.tick.Staging.{write-none}
 use Rattle.board.specs.Lists.{cutUp, start, replayed, rowsBoth, Executed}
-use Rattle.board.specs.Row.{callAt, rowsOf, callsIn, numbersOf, numbersIn, answersTo, rowDoes, rowsDo, RowDone}
+use Rattle.board.specs.Row.{callWidth, replyWidth, callAt, rowsOf, callsIn, numbersOf, numbersIn, answersTo, rowDoes, rowsDo, RowDone}
 
 -- ---- row after row
 
@@ -57,14 +57,14 @@ rows-more [] o w = refl
 rows-more (p ∷ os) o w = ap (ahead (rowDoes p w .answer)) (rows-more os o (rowDoes p w .left))
 
 -- the next row stands behind those before it
-rows-next : (n : ℕ) (zs : List ℤ) → rowsOf (suc n) zs ≡ rowsOf n zs ++ (callAt (drop (n * 7) zs) ∷ [])
+rows-next : (n : ℕ) (zs : List ℤ) → rowsOf (suc n) zs ≡ rowsOf n zs ++ (callAt (drop (n * callWidth) zs) ∷ [])
 unfolding rowsOf
 rows-next zero zs = refl
 rows-next (suc n) zs =
-    let e : 7 + n * 7 ≡ suc n * 7 = omega arith in
+    let e : callWidth + n * callWidth ≡ suc n * callWidth = omega arith in
     ap (λ (os : List (Option Call)). callAt zs ∷ os)
-    (rows-next n (drop 7 zs)
-    ∙ ap (λ (l : List ℤ). rowsOf n (drop 7 zs) ++ (callAt l ∷ [])) (drop-drop (n * 7) 7 zs ∙ ap (λ (k : ℕ). drop k zs) e))
+    (rows-next n (drop callWidth zs)
+    ∙ ap (λ (l : List ℤ). rowsOf n (drop callWidth zs) ++ (callAt l ∷ [])) (drop-drop (n * callWidth) callWidth zs ∙ ap (λ (k : ℕ). drop k zs) e))
 
 -- and so do its reply's numbers
 numbers-more : (xs : List Reply) (x : Reply) → numbersIn (xs ++ (x ∷ [])) ≡ numbersIn xs ++ numbersOf x
@@ -79,7 +79,7 @@ rowsFrom calls log n = rowsDo (rowsOf n calls) (world freshBoard log)
 -- So many rows are done: board and log are what they leave, and their replies stand first.
 pub record RowsDone (calls : List ℤ) (log replies : List ℕ) (n : ℕ) (board : Board) (log′ replies′ : List ℕ) : Type 0 where
   pub left-is : world board log′ ≡ rowsFrom calls log n .last
-  pub long : length (numbersIn (rowsFrom calls log n .answers)) ≡ n * 28
+  pub long : length (numbersIn (rowsFrom calls log n .answers)) ≡ n * replyWidth
   pub replies-are : replies′ ≡ writeAt replies 0 (numbersIn (rowsFrom calls log n .answers))
   pub log-long : length log′ ≡ length log
   pub replies-long : length replies′ ≡ length replies
@@ -98,13 +98,13 @@ module _ (calls : List ℤ) (log replies : List ℕ) where
       }
 
   -- one more is done
-  pub rows-step : (n : ℕ) (b b′ : Board) (l l′ r r′ : List ℕ) → RowsDone calls log replies n b l r → n * 28 + 28 ≤ length replies →
-      RowDone (callAt (drop (n * 7) calls)) (world b l) r (n * 28) b′ l′ r′ → length l′ ≡ length l → length r′ ≡ length r →
+  pub rows-step : (n : ℕ) (b b′ : Board) (l l′ r r′ : List ℕ) → RowsDone calls log replies n b l r → n * replyWidth + replyWidth ≤ length replies →
+      RowDone (callAt (drop (n * callWidth) calls)) (world b l) r (n * replyWidth) b′ l′ r′ → length l′ ≡ length l → length r′ ≡ length r →
       RowsDone calls log replies (n + 1) b′ l′ r′
   rows-step n b b′ l l′ r r′ h room d e f =
-      let o : Option Call = callAt (drop (n * 7) calls) in
+      let o : Option Call = callAt (drop (n * callWidth) calls) in
       let a : All Reply (World Board) = rowsFrom calls log n in
-      let g : RowDone o (a .last) r (n * 28) b′ l′ r′ = subst (λ (w : World Board). RowDone o w r (n * 28) b′ l′ r′) (h .left-is) d in
+      let g : RowDone o (a .last) r (n * replyWidth) b′ l′ r′ = subst (λ (w : World Board). RowDone o w r (n * replyWidth) b′ l′ r′) (h .left-is) d in
       let x : Reply = rowDoes o (a .last) .answer in
       let m : rowsFrom calls log (n + 1) ≡ record { answers = a .answers ++ (x ∷ []); last = rowDoes o (a .last) .left } =
       ap (λ (k : ℕ). rowsFrom calls log k) (add-one n)
@@ -118,8 +118,8 @@ module _ (calls : List ℤ) (log replies : List ℕ) where
             ap length q ∙ length-append (numbersIn (a .answers)) (numbersOf x) ∙ (λ i. h .long i + g .reply-long i) ∙ omega arith;
         replies-are =
             g .reply-is
-            ∙ ap (λ (ys : List ℕ). writeAt ys (n * 28) (numbersOf x)) (h .replies-are)
-            ∙ write-write replies (numbersIn (a .answers)) (numbersOf x) 0 (n * 28) (omega (arith, h .long)) (omega (arith, g .reply-long))
+            ∙ ap (λ (ys : List ℕ). writeAt ys (n * replyWidth) (numbersOf x)) (h .replies-are)
+            ∙ write-write replies (numbersIn (a .answers)) (numbersOf x) 0 (n * replyWidth) (omega (arith, h .long)) (omega (arith, g .reply-long))
             ∙ ap (writeAt replies 0) (sym q);
         log-long = e ∙ h .log-long;
         replies-long = f ∙ h .replies-long;

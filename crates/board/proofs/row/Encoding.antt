@@ -22,7 +22,7 @@ use Rattle.track.specs.Number.{naturalOf, onNatural, valueOf, coordinateAt}
 use Rattle.track.specs.declared.Coordinate.{Coordinate}
 use Rattle.track.proofs.Numbers.{natural-in, natural-of, coordinate-at, back}
 use Rattle.board.specs.Log.{writeAt}
-use Rattle.board.specs.Row.{callFrom, callOf, callAt, padded, trackNumbers, pointNumbers}
+use Rattle.board.specs.Row.{replyWidth, callFrom, callOf, callAt, padded, trackNumbers, pointNumbers}
 use Rattle.board.specs.Call.{TrackValues, trackValues, pointValues}
 use Rattle.board.specs.declared.points.Point.{Point}
 
@@ -99,8 +99,8 @@ row-read zs k a b c d e f g =
 
 -- ---- the row of a reply
 
--- sixteen cells written behind twelve numbers of 28
-pub cells-behind : (head cells : List ℕ) → length head ≡ 28 → length cells ≡ 16 → writeAt head 12 (take 16 cells) ≡ take 12 head ++ cells
+-- sixteen cells written behind twelve numbers of a row
+pub cells-behind : (head cells : List ℕ) → length head ≡ replyWidth → length cells ≡ 16 → writeAt head 12 (take 16 cells) ≡ take 12 head ++ cells
 unfolding writeAt
 cells-behind head cells h l =
     let t : take 16 cells ≡ cells = take-all 16 cells (omega arith) in
@@ -149,5 +149,5 @@ pub track-numbers : (t : TrackValues) → length (t .actions) ≡ 16 →
     take 12 (padded (6 ∷ take 11 (trackNumbers t))) ++ t .actions ≡ padded (6 ∷ trackNumbers t)
 track-numbers t l =
     let xs : List ℕ = 6 ∷ trackNumbers t in
-    let n : length xs ≡ 28 = omega (arith, l) in
-    sym (ap (λ (k : ℕ). xs ++ replicate (28 - k) 0) n ∙ append-nil xs)
+    let n : length xs ≡ replyWidth = omega (arith, l) in
+    sym (ap (λ (k : ℕ). xs ++ replicate (replyWidth - k) 0) n ∙ append-nil xs)

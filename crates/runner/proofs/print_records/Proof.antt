@@ -4,9 +4,10 @@ use mathlib.Core.Path.{_≡_}
 use borrow.Author.Needs.{needs}
 use Rattle.runner.proofs.print_records.Statement.{statement}
 use Rattle.runner.proofs.print_records.Tie as tie
+use Rattle.script.specs.Text.{lineRoom}
 
 abbrev Inv-loop : tie.InvT-loop
-Inv-loop held log out₀ at₀ left₀ out at left = (160 ≤ length out) × (length out ≡ length out₀)
+Inv-loop held log out₀ at₀ left₀ out at left = (lineRoom ≤ length out) × (length out ≡ length out₀)
 
 abbrev μ-loop : tie.MeasureT-loop
 μ-loop held log out₀ at₀ left₀ out at left = left

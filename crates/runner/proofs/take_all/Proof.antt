@@ -4,10 +4,11 @@ use mathlib.Core.Path.{_≡_}
 use borrow.Author.Needs.{needs}
 use Rattle.runner.proofs.take_all.Statement.{statement}
 use Rattle.runner.proofs.take_all.Tie as tie
+use Rattle.script.specs.Text.{lineRoom}
 
 abbrev Inv-loop : tie.InvT-loop
 Inv-loop piece₀ log₀ out₀ session₀ turns₀ piece log out session turns =
-    (160 ≤ length out) × (length out ≡ length out₀) × (length log ≡ length log₀) × (length piece ≡ length piece₀)
+    (lineRoom ≤ length out) × (length out ≡ length out₀) × (length log ≡ length log₀) × (length piece ≡ length piece₀)
 
 abbrev μ-loop : tie.MeasureT-loop
 μ-loop piece₀ log₀ out₀ session₀ turns₀ piece log out session turns = turns

@@ -7,10 +7,11 @@ use mathlib.Core.Path.{_≡_, refl}
 use borrow.Author.Needs.{needs}
 use Rattle.runner.proofs.take_in.Statement.{statement}
 use Rattle.runner.proofs.take_in.Tie as tie
+use Rattle.script.specs.Text.{lineRoom}
 
 abbrev Inv-loop : tie.InvT-loop
 Inv-loop piece log₀ out₀ session₀ at₀ log out session at =
-    (160 ≤ length out) × (length out ≡ length out₀) × (length log ≡ length log₀)
+    (lineRoom ≤ length out) × (length out ≡ length out₀) × (length log ≡ length log₀)
     × Went session₀ piece log₀ session (drop at piece) log
 
 abbrev μ-loop : tie.MeasureT-loop

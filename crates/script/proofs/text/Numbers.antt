@@ -12,7 +12,7 @@ use borrow.Author.Tests.{ltb-true, ltb-false, lt-ltb, le-ltb, le-leb, ne-eqb}
 use Rattle.script.specs.declared.number.Size.the-variants.{Of}
 use Rattle.script.specs.declared.number.Number.the-variants.{Value}
 use Rattle.script.specs.Number.{sizeFrom, sizeOf, numberOf, positive, negative}
-use Rattle.script.specs.Text.{digitsThen, decimal, signed}
+use Rattle.script.specs.Text.{digitsMost, digitsThen, decimal, signed}
 
 -- ---- digits
 
@@ -53,8 +53,8 @@ by-digits P one more (suc f) n rest p h = go (ltb n 10) refl (by-digits P one mo
         subst (P n rest) (sym (digits-more f n rest l)) (more n rest _ l (g (b .0) (b .1)))
 
 -- read digit by digit they come to the number
-digits-read : (n : ℕ) (rest : List ℕ) → n < 10 ^ 20 → sizeFrom 0 (digitsThen 20 n rest) ≡ sizeFrom n rest
-digits-read n rest h = by-digits (λ n rest s. sizeFrom 0 s ≡ sizeFrom n rest) one more 20 n rest (omega arith) h
+digits-read : (n : ℕ) (rest : List ℕ) → n < 10 ^ digitsMost → sizeFrom 0 (digitsThen digitsMost n rest) ≡ sizeFrom n rest
+digits-read n rest h = by-digits (λ n rest s. sizeFrom 0 s ≡ sizeFrom n rest) one more digitsMost n rest (omega arith) h
   where
     one : (n : ℕ) (rest : List ℕ) → n < 10 → sizeFrom 0 ((48 + n) ∷ rest) ≡ sizeFrom n rest
     one n rest l =
@@ -67,9 +67,9 @@ digits-read n rest h = by-digits (λ n rest s. sizeFrom 0 s ≡ sizeFrom n rest)
         e ∙ digit-read (n / 10) (n % 10) rest (omega arith) ∙ ap (λ (v : ℕ). sizeFrom v rest) q
 
 -- the first is no zero
-digits-first : (n : ℕ) (rest : List ℕ) → n < 10 ^ 20 → 0 < n → 48 < getD (digitsThen 20 n rest) 0 0
+digits-first : (n : ℕ) (rest : List ℕ) → n < 10 ^ digitsMost → 0 < n → 48 < getD (digitsThen digitsMost n rest) 0 0
 digits-first n rest h =
-    by-digits (λ n rest s. 0 < n → 48 < getD s 0 0) (λ n rest l p. omega arith) (λ n rest s l e p. e (omega arith)) 20 n rest (omega arith) h
+    by-digits (λ n rest s. 0 < n → 48 < getD s 0 0) (λ n rest l p. omega arith) (λ n rest s l e p. e (omega arith)) digitsMost n rest (omega arith) h
 
 -- ---- numbers
 

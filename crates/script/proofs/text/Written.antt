@@ -14,7 +14,7 @@ use Rattle.track.specs.Number.{valueOf}
 use Rattle.board.specs.Log.{positionOf}
 use Rattle.script.specs.declared.text.Digits.{Digits}
 use Rattle.script.specs.declared.text.Out.{Out}
-use Rattle.script.specs.Text.{digitsThen, decimal, numberThen, signed, textOf, IsDecimal, Adds}
+use Rattle.script.specs.Text.{digitsMost, digitsThen, decimal, numberThen, signed, textOf, IsDecimal, Adds}
 
 -- ---- digits
 
@@ -90,8 +90,8 @@ text-adds o r b n e f = f .adds ∙ ap (λ (x : List ℕ). x ++ b) e
 -- ---- numbers
 
 -- the digits of a number
-pub adds-digits : (o r : Out) (n : ℕ) (d : Digits) → length (d .bytes) ≡ 20 → IsDecimal n d →
-    Adds o (drop (d .from) (d .bytes)) (length (d .bytes) - d .from) r → Adds o (decimal n) 20 r
+pub adds-digits : (o r : Out) (n : ℕ) (d : Digits) → length (d .bytes) ≡ digitsMost → IsDecimal n d →
+    Adds o (drop (d .from) (d .bytes)) (length (d .bytes) - d .from) r → Adds o (decimal n) digitsMost r
 adds-digits o r n d l e f =
     record {
       adds = f .adds ∙ ap (λ (x : List ℕ). textOf o ++ x) (e .digits);

@@ -2,6 +2,7 @@ use Prim.Native.Nat.{_≤_, _-_, _*_}
 use Rattle.board.proofs.lists.Executing.{RowsDone, rows-start, rows-step, rows-end}
 use Rattle.board.proofs.lists.run_calls.Statement.{statement}
 use Rattle.board.proofs.lists.run_calls.Tie as tie
+use Rattle.board.specs.Row.{callWidth, replyWidth}
 use borrow.Author.Needs.{needs}
 use lib.ListN.{length}
 use native.Mathlib.Omega.{arith}
@@ -15,7 +16,7 @@ abbrev μ-loop : tie.MeasureT-loop
 -- each of so many rows is whole in the calls and in the replies
 many : (c : tie.After-rows Inv-loop μ-loop) →
     let a = c .before .before .before .args in
-    (c .rows .result * 7 ≤ length (a .calls .now)) × (c .rows .result * 28 ≤ length (a .replies .now))
+    (c .rows .result * callWidth ≤ length (a .calls .now)) × (c .rows .result * replyWidth ≤ length (a .replies .now))
 many c = omega (arith, c .rows .ensures)
 
 rows-requires : tie.Need-rows-requires Inv-loop μ-loop

@@ -2,6 +2,7 @@ use Prim.Native.Nat.{_*_}
 use Rattle.board.proofs.row.Encoding.{row-read}
 use Rattle.board.proofs.row.call_at.Statement.{statement}
 use Rattle.board.proofs.row.call_at.Tie as tie
+use Rattle.board.specs.Row.{callWidth}
 use borrow.Author.Needs.{needs}
 use mathlib.Core.Path.{_∙_}
 
@@ -75,7 +76,7 @@ returns : tie.Need-returns
 returns c =
     let a = c .before .before .before .before .before .before .before .before .args in
     c .call-of .ensures
-    ∙ row-read (a .calls .now) (a .i * 7)
+    ∙ row-read (a .calls .now) (a .i * callWidth)
     (c .before .before .before .before .before .before .before .call-of-arg .given)
     (c .before .before .before .before .before .before .call-of-arg2 .given)
     (c .before .before .before .before .before .call-of-arg3 .given)

@@ -2,7 +2,7 @@ use Prim.Native.Nat.{_*_}
 use Rattle.board.proofs.row.Doing.{row-done}
 use Rattle.board.proofs.row.do_row.Statement.{statement}
 use Rattle.board.proofs.row.do_row.Tie as tie
-use Rattle.board.specs.Row.{callAt}
+use Rattle.board.specs.Row.{callAt, callWidth, replyWidth}
 use Rattle.board.specs.Call.{world}
 use borrow.Author.Needs.{needs}
 use lib.ListN.{drop}
@@ -31,8 +31,8 @@ returns c =
     let d = c .before .before .before .before .before .before .before .before .answer in
     let r = c .before .before .before .before .before .before .before .before .before .before .call-at in
     let a = c .before .before .before .before .before .before .before .before .before .before .before .before .before .args in
-    row-done (r .result) (callAt (drop (a .i * 7) (a .calls .now))) (world (a .b) (a .log .now)) (d .result .told) (d .result .track)
-    (d .result .board) _ (a .replies .now) _ (a .i * 28) (r .ensures) (d .ensures) (p .ensures .0) (p .ensures .1)
+    row-done (r .result) (callAt (drop (a .i * callWidth) (a .calls .now))) (world (a .b) (a .log .now)) (d .result .told) (d .result .track)
+    (d .result .board) _ (a .replies .now) _ (a .i * replyWidth) (r .ensures) (d .ensures) (p .ensures .0) (p .ensures .1)
 
 pub do-row-spec : {M : Type 1} → statement M
 do-row-spec =

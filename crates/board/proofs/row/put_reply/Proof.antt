@@ -2,10 +2,11 @@ use borrow.Author.Needs.{needs}
 use Rattle.board.proofs.row.put_reply.Statement.{statement}
 use Rattle.board.proofs.row.put_reply.Tie as tie
 use Rattle.board.specs.Log.{writeAt}
+use Rattle.board.specs.Row.{replyWidth}
 use lib.ListN.{length}
 use mathlib.Core.Path.{_≡_, _∙_, sym, ap}
 
-long : (c : tie.After-reply-row) → length (c .reply-row .result) ≡ 28
+long : (c : tie.After-reply-row) → length (c .reply-row .result) ≡ replyWidth
 long c = search needs
 
 reply-row-requires : tie.Need-reply-row-requires

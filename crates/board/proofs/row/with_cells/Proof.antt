@@ -4,6 +4,7 @@ use Rattle.board.proofs.row.with_cells.Statement.{statement}
 use Rattle.board.proofs.row.with_cells.Tie as tie
 use Rattle.board.proofs.tick.Staging.{write-step, write-end}
 use Rattle.board.specs.Log.{writeAt}
+use Rattle.board.specs.Row.{replyWidth}
 use borrow.Author.Needs.{needs}
 use lib.ListN.{length, take, drop, set, length-set}
 use mathlib.Core.Path.{_≡_, _∙_, refl, ap}
@@ -11,7 +12,7 @@ use native.Mathlib.Omega.{arith}
 
 abbrev Inv-loop : tie.InvT-loop
 Inv-loop cells row₀ j₀ row j =
-    (j ≤ 16) × (length row ≡ 28) × (writeAt row (12 + j) (drop j (take 16 cells)) ≡ writeAt row₀ 12 (take 16 cells))
+    (j ≤ 16) × (length row ≡ replyWidth) × (writeAt row (12 + j) (drop j (take 16 cells)) ≡ writeAt row₀ 12 (take 16 cells))
 
 abbrev μ-loop : tie.MeasureT-loop
 μ-loop cells row₀ j₀ row j = 16 - j

@@ -8,10 +8,11 @@ use native.Mathlib.Omega.{arith}
 use borrow.Author.Needs.{needs}
 use Rattle.script.proofs.output.show.Statement.{statement}
 use Rattle.script.proofs.output.show.Tie as tie
+use Rattle.script.specs.Text.{lineRoom}
 
 abbrev Inv-loop : tie.InvT-loop
 Inv-loop log from count out₀ at₀ left₀ used₀ out at left used =
-    (at ≤ length log) × (used ≤ length out₀) × (length out ≡ length out₀) × (left ≤ count) × (used ≤ 160 * (count - left))
+    (at ≤ length log) × (used ≤ length out₀) × (length out ≡ length out₀) × (left ≤ count) × (used ≤ lineRoom * (count - left))
     × (recordLines count (drop from log) ≡ take used out ++ recordLines left (drop at log))
 
 abbrev μ-loop : tie.MeasureT-loop

@@ -10,10 +10,11 @@ use native.Mathlib.Omega.{arith}
 use borrow.Author.Needs.{needs}
 use Rattle.script.proofs.run.feed.Statement.{statement}
 use Rattle.script.proofs.run.feed.Tie as tie
+use Rattle.script.specs.Text.{lineRoom}
 
 abbrev Inv-loop : tie.InvT-loop
 Inv-loop piece at log₀ out₀ reader₀ board₀ next₀ used₀ log out reader board next used =
-    (used ≤ length out₀) × (length out ≡ length out₀) × (length log ≡ length log₀) × (at ≤ next) × (used ≤ 160 * (next - at))
+    (used ≤ length out₀) × (length out ≡ length out₀) × (length log ≡ length log₀) × (at ≤ next) × (used ≤ lineRoom * (next - at))
     × Goes (record { reader = reader₀; board = board₀ }) (drop at piece) log₀ (take used out) (record { reader = reader; board = board }) (drop next piece) log
 
 abbrev μ-loop : tie.MeasureT-loop

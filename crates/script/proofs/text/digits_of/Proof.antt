@@ -1,6 +1,6 @@
 use Prim.Native.Nat.{_≤_, _<_, _-_, _^_}
 use Rattle.script.proofs.text.Written.{room, digit-next, digit-last}
-use Rattle.script.specs.Text.{digitsThen, decimal}
+use Rattle.script.specs.Text.{digitsMost, digitsThen, decimal}
 use lib.ListN.{length, drop, length-set}
 use mathlib.Core.Path.{_≡_, refl, _∙_}
 use native.Mathlib.Omega.{arith}
@@ -10,7 +10,7 @@ use Rattle.script.proofs.text.digits_of.Tie as tie
 
 abbrev Inv-loop : tie.InvT-loop
 Inv-loop n bytes₀ i₀ v₀ bytes i v =
-    (1 ≤ i) × (i ≤ 20) × (v < 18446744073709551616) × (v < 10 ^ i) × (length bytes ≡ 20) × (digitsThen i v (drop i bytes) ≡ decimal n)
+    (1 ≤ i) × (i ≤ digitsMost) × (v < 18446744073709551616) × (v < 10 ^ i) × (length bytes ≡ digitsMost) × (digitsThen i v (drop i bytes) ≡ decimal n)
 
 abbrev μ-loop : tie.MeasureT-loop
 μ-loop n bytes₀ i₀ v₀ bytes i v = v

@@ -5,6 +5,7 @@ use native.Mathlib.Omega.{arith}
 use borrow.Author.Needs.{needs}
 use Rattle.script.proofs.text.Out.push.Statement.{statement}
 use Rattle.script.proofs.text.Out.push.Tie as tie
+use Rattle.script.specs.Text.{lineRoom}
 
 element-write-o : tie.Need-element-write-o
 element-write-o c = search needs
@@ -15,7 +16,7 @@ add-o c = search needs
 returns : tie.Need-returns
 returns c =
     let o = c .args .self in
-    let l : length (o .bytes) ≡ 160 = search needs in
+    let l : length (o .bytes) ≡ lineRoom = search needs in
     record { adds = put-next (o .bytes) (o .length) (c .args .b) (omega arith); few = omega arith }
 
 pub push-spec : {M : Type 1} → statement M

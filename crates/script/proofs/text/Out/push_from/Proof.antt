@@ -1,6 +1,6 @@
 use Prim.Native.Nat.{_≤_, _+_, _-_}
 use Rattle.script.proofs.text.Written.{push-next, push-end, put-next}
-use Rattle.script.specs.Text.{textOf}
+use Rattle.script.specs.Text.{lineRoom, textOf}
 use lib.ListN.{length, take, drop, length-set}
 use mathlib.Core.List.{_++_}
 use mathlib.Core.Path.{_≡_, refl, _∙_}
@@ -11,8 +11,8 @@ use Rattle.script.proofs.text.Out.push_from.Tie as tie
 
 abbrev Inv-loop : tie.InvT-loop
 Inv-loop s from o₀ n₀ i₀ o n i =
-    (i ≤ length s) × (from ≤ i) × (n + (length s - i) ≡ o₀ .length + (length s - from)) × (o₀ .length + (length s - from) ≤ 160)
-    × (length (o .bytes) ≡ 160) × (take n (o .bytes) ++ drop i s ≡ textOf o₀ ++ drop from s)
+    (i ≤ length s) × (from ≤ i) × (n + (length s - i) ≡ o₀ .length + (length s - from)) × (o₀ .length + (length s - from) ≤ lineRoom)
+    × (length (o .bytes) ≡ lineRoom) × (take n (o .bytes) ++ drop i s ≡ textOf o₀ ++ drop from s)
 
 abbrev μ-loop : tie.MeasureT-loop
 μ-loop s from o₀ n₀ i₀ o n i = length s - i

@@ -2,6 +2,7 @@ use Prim.Native.Nat.{ℕ, _≤_, _+_, _-_}
 use Rattle.script.proofs.text.Written.{wrote-next, wrote-none, wrote-all}
 use Rattle.script.proofs.text.Out.write.Statement.{statement}
 use Rattle.script.proofs.text.Out.write.Tie as tie
+use Rattle.script.specs.Text.{lineRoom}
 use borrow.Author.Needs.{needs}
 use lib.ListN.{length, take, length-set}
 use mathlib.Core.List.{List, _++_}
@@ -11,11 +12,11 @@ use native.Mathlib.Omega.{arith}
 
 abbrev Inv-loop : tie.InvT-loop
 Inv-loop out₀ used self i₀ out i =
-    (i ≤ 160) × (i ≤ self .length) × (length out ≡ length out₀) × (used + 160 ≤ length out₀) × (length (self .bytes) ≡ 160)
+    (i ≤ lineRoom) × (i ≤ self .length) × (length out ≡ length out₀) × (used + lineRoom ≤ length out₀) × (length (self .bytes) ≡ lineRoom)
     × (take (used + i) out ≡ take used out₀ ++ take i (self .bytes))
 
 abbrev μ-loop : tie.MeasureT-loop
-μ-loop out₀ used self i₀ out i = 160 - i
+μ-loop out₀ used self i₀ out i = lineRoom - i
 
 loop-holds : tie.Need-loop-holds Inv-loop μ-loop
 loop-holds c = (
