@@ -58,7 +58,8 @@ fn mode_call<'a>(
     call: u8,
     log: &mut [u8],
 ) -> Answered
-    ensures { λ r. ⌜ Rules call (boardOf tracks present (now (keys .entry)) (now (infos .entry)) n (clock .0) held) track (now (log .entry)) r (now (log .exit)) ⌝ }
+    ensures { λ r. ⌜ Rules call (boardOf tracks present (now (keys .entry)) (now (infos .entry)) n (clock .0) held)
+        track (now (log .entry)) r (now (log .exit)) ⌝ }
 {
     let r = change_mode(
         tracks,
