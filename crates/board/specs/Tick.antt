@@ -13,6 +13,7 @@ use Rattle.track.specs.Grid.{gridOf}
 use Rattle.track.specs.Walk.{arrival, passesAt, step}
 use Rattle.board.specs.declared.Board.{Board}
 use Rattle.board.specs.declared.log.Record.{Record}
+use Rattle.board.specs.declared.tick.Stepped.{Stepped}
 use Rattle.board.specs.Points.{key, keysOf, infosOf, infoAt, eventOf, commandOf, targetOf, waits, trackCount}
 use Rattle.board.specs.Board.{eventMost, trackAt, isPresent}
 use Rattle.board.specs.Log.{detailUnit}
@@ -88,6 +89,10 @@ unfoldable pub stepRecords : ℕ → ℕ → Track → ℕ → List Record
 stepRecords clock i t d =
     pointRecords clock i (arrival t) (t .passes .0) d
     ++ changeRecords clock i t (step t (waits d) .mode) (arrival t) (passesAt t (arrival t))
+
+-- what a step changes of its track, beside a number of records
+abbrev pub stepped : Track → ℕ → Stepped
+stepped t n = record { mode = t .mode; position = t .position; passes = t .passes; due = t .due; count = n }
 
 abbrev pub reachedBy : ℕ → List ℕ
 reachedBy d = cond (eqb d 0) [] (d ∷ [])

@@ -106,11 +106,13 @@ fn run<'a>(
             let here = i as u32 * Points::STRIDE + l.0;
             let d = Points::info_at(keys, infos, n, here);
             let r = step_member(t, l, i as u8, Ticks(clock + 1), d, &mut stage, staged);
-            let after = r.track;
-            tracks[i] = after;
+            tracks[i].mode = r.mode;
+            tracks[i].position.0 = r.position.0;
+            tracks[i].passes.0 = r.passes.0;
+            tracks[i].due = r.due;
             staged = r.count;
             m = note(&mut reached, m, d);
-            more = needs_more(more, d, after.mode);
+            more = needs_more(more, d, r.mode);
             if room < staged {
                 tracks = back;
                 answer = Advanced::LogFull(Ticks(taken));

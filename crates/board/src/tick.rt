@@ -19,10 +19,10 @@ ghost use Rattle.track.specs.Grid.{gridOf};
 ghost use Rattle.track.specs.Walk.{arrival, step};
 ghost use Rattle.board.specs.Log.{writeAt, logBytes, recordWidth};
 ghost use Rattle.board.specs.Tick.{pointRecords, changeRecords, stepRecords, commandRecords, commanded, obeyed, obeyedRecords, runAll};
-ghost use Rattle.board.specs.Tick.{staged, reachedBy, needsMore, playBit, playingWord, InfoRule, TracksRule};
+ghost use Rattle.board.specs.Tick.{staged, stepped, reachedBy, needsMore, playBit, playingWord, InfoRule, TracksRule};
 ghost use Rattle.board.specs.Points.{waits, commandOf};
 
-// A track after its step or a command, and the number of records staged.
+// A track after a command, and the number of records staged.
 pub struct Staged {
     pub track: Track,
     pub count: usize,
@@ -33,6 +33,15 @@ impl Staged {
     pub const MOST: usize = 48;
 
     pub const BYTES: usize = Staged::MOST * Record::WIDTH;
+}
+
+// What a step changes of its track, and the number of records staged.
+pub struct Stepped {
+    pub mode: u8,
+    pub position: Coordinate,
+    pub passes: Passes,
+    pub due: u8,
+    pub count: usize,
 }
 
 // The tracks after a tick's commands, the number of records staged, and the word of the tracks that play then.
@@ -102,7 +111,7 @@ fn stage_point(
     n + 1
 }
 
-// The record of a change of mode, if its action cell is not 0.
+// The record of a change of mode, if its action cell is not 0. Between equal modes it always is.
 pub(crate) fn stage_change(
     stage: &mut [u8],
     n: usize,
@@ -114,12 +123,16 @@ pub(crate) fn stage_change(
     passes: Passes,
 ) -> usize
     requires { ⌜ n * recordWidth + recordWidth ≤ length (now stage) ⌝ }
-    requires { ⌜ (t .mode ≤ 3) × (new ≤ 3) ⌝ }
+    requires { ⌜ Valid t ⌝ }
+    requires { ⌜ new ≤ 3 ⌝ }
     ensures count { λ r. ⌜ r ≡ n + length (changeRecords (clock .0) track t new (l .0) (passes .0)) ⌝ }
     ensures bytes { λ r. ⌜ now (stage .exit) ≡ writeAt (now (stage .entry)) (n * recordWidth)
         (logBytes (changeRecords (clock .0) track t new (l .0) (passes .0))) ⌝ }
 {
     let mode = t.mode;
+    if mode == new {
+        return n;
+    }
     let event = t.action(mode, new);
     if event == 0 {
         return n;
@@ -146,13 +159,13 @@ pub(crate) fn step_member(
     d: u32,
     stage: &mut [u8],
     n: usize,
-) -> Staged
+) -> Stepped
     requires { ⌜ Valid t ⌝ }
     requires { ⌜ t .passes .0 ≤ clockEnd ⌝ }
     requires { ⌜ InfoRule d ⌝ }
     requires { ⌜ n * recordWidth + 2 * recordWidth ≤ length (now stage) ⌝ }
     requires { ⌜ l .0 ≡ arrival t ⌝ }
-    ensures staged { λ r. ⌜ r ≡ record { track = step t (waits d); count = n + length (stepRecords (clock .0) track t d) } ⌝ }
+    ensures stepped { λ r. ⌜ r ≡ stepped (step t (waits d)) (n + length (stepRecords (clock .0) track t d)) ⌝ }
     ensures bytes { λ r. ⌜ now (stage .exit) ≡ writeAt (now (stage .entry)) (n * recordWidth) (logBytes (stepRecords (clock .0) track t d)) ⌝ }
 {
     let before = t.passes;
@@ -160,8 +173,13 @@ pub(crate) fn step_member(
     let passes = t.passes_at(l);
     let after = t.step(d / Point::WAIT % 2 == 1);
     let count = stage_change(stage, noted, clock, track, t, after.mode, l, passes);
-    Staged {
-        track: after,
+    let reached = after.position;
+    let counted = after.passes;
+    Stepped {
+        mode: after.mode,
+        position: reached,
+        passes: counted,
+        due: after.due,
         count,
     }
 }

@@ -11,14 +11,16 @@ use lib.ListN.{length, take, set, length-set}
 use lib.Seq.{getD-set-same, getD-set-other, set-set, set-comm}
 use borrow.Author.Tests.{eq-eqb, eqb-true}
 use Rattle.track.specs.declared.Track.{Track}
-use Rattle.track.specs.Rule.{PLAYING, Valid}
-use Rattle.track.specs.Walk.{step}
+use Rattle.track.specs.Rule.{PLAYING, Valid, moved}
+use Rattle.track.specs.Walk.{step, stops, visited}
 use Rattle.track.specs.Leap.{leap}
+use Rattle.track.proofs.Tests.{cond-cases}
 use Rattle.board.specs.declared.Board.{Board}
+use Rattle.board.specs.declared.tick.Stepped.{Stepped}
 use Rattle.board.specs.Log.{writeAt, recordWidth, logBytes}
 use Rattle.board.specs.Points.{ascendingFrom, keysOf, infosOf, waits, commandOf, trackCount}
 use Rattle.board.specs.Board.{noTrack, trackAt, isPresent, pointsTest}
-use Rattle.board.specs.Tick.{Stage, staged, needsMore, stepRecords, reachedBy, foundBy, runCommand, runAll, tickFrom, playBit, playingWord, TracksRule, tickMost}
+use Rattle.board.specs.Tick.{Stage, staged, stepped, needsMore, stepRecords, reachedBy, foundBy, runCommand, runAll, tickFrom, playBit, playingWord, TracksRule, tickMost}
 use Rattle.board.specs.Tick.{members}
 use Rattle.board.specs.Replay.{Each}
 use Rattle.board.specs.Quiet.{CanLeap, Leapable, leapInto, leapTracks}
@@ -63,6 +65,43 @@ module _ (k i : ℕ) where
       let l : i < j = ascending-head (suc i) j js a in
       into-from ts js (set us j (leap (trackAt (set ts i u) j) k)) u (ascending-weaken (suc i) (suc j) js (omega arith) (ascending-rest (suc i) j js a))
       ∙ ap (λ (t : Track). leapInto k ts js (set us j (leap t k))) (getD-set-other ts i j u noTrack (λ q. omega arith))
+
+-- ---- a step's fields stored in their place, one after the other
+
+-- the four stores
+abbrev inMode : List Track → ℕ → ℕ → List Track
+inMode ts i v = let t = trackAt ts i in set ts i (moved t v (t .position .0) (t .passes .0) (t .due))
+
+abbrev inPosition : List Track → ℕ → ℕ → List Track
+inPosition ts i v = let t = trackAt ts i in set ts i (moved t (t .mode) v (t .passes .0) (t .due))
+
+abbrev inPasses : List Track → ℕ → ℕ → List Track
+inPasses ts i v = let t = trackAt ts i in set ts i (moved t (t .mode) (t .position .0) v (t .due))
+
+abbrev inDue : List Track → ℕ → ℕ → List Track
+inDue ts i v = let t = trackAt ts i in set ts i (moved t (t .mode) (t .position .0) (t .passes .0) v)
+
+abbrev pub stored : List Track → ℕ → Stepped → List Track
+stored ts i r = inDue (inPasses (inPosition (inMode ts i (r .mode)) i (r .position .0)) i (r .passes .0)) i (r .due)
+
+-- a track put in its place and changed there
+set-again : (f : Track → Track) (ts : List Track) (i : ℕ) (u : Track) → i < length ts → set (set ts i u) i (f (trackAt (set ts i u) i)) ≡ set ts i (f u)
+set-again f ts i u h = set-set ts i u (f (trackAt (set ts i u) i)) ∙ ap (λ (t : Track). set ts i (f t)) (getD-set-same ts i u noTrack h)
+
+stored-is : (ts : List Track) (i : ℕ) (r : Stepped) → i < length ts → stored ts i r ≡ set ts i (moved (trackAt ts i) (r .mode) (r .position .0) (r .passes .0) (r .due))
+stored-is ts i r h =
+    let t = trackAt ts i in
+    let a = set-again (λ u. moved u (u .mode) (r .position .0) (u .passes .0) (u .due)) ts i (moved t (r .mode) (t .position .0) (t .passes .0) (t .due)) h in
+    let b = set-again (λ u. moved u (u .mode) (u .position .0) (r .passes .0) (u .due)) ts i (moved t (r .mode) (r .position .0) (t .passes .0) (t .due)) h in
+    let c = set-again (λ u. moved u (u .mode) (u .position .0) (u .passes .0) (r .due)) ts i (moved t (r .mode) (r .position .0) (r .passes .0) (t .due)) h in
+    ap (λ (us : List Track). inDue (inPasses us i (r .passes .0)) i (r .due)) a ∙ ap (λ (us : List Track). inDue us i (r .due)) b ∙ c
+
+-- a step changes no other field, nor does a leap
+step-moves : (t x : Track) (k : ℕ) (w : Bool) → x ≡ leap t k → moved t (step x w .mode) (step x w .position .0) (step x w .passes .0) (step x w .due) ≡ step x w
+unfolding step visited leap
+step-moves t x k w e =
+    subst (λ (x : Track). moved t (step x w .mode) (step x w .position .0) (step x w .passes .0) (step x w .due) ≡ step x w) (sym e)
+    (cond-cases (λ (u : Track). moved t (u .mode) (u .position .0) (u .passes .0) (u .due) ≡ u) (stops (leap t k)) (λ q. refl) (λ q. refl))
 
 -- ---- what a step that needs no more keeps
 
@@ -199,7 +238,7 @@ module _ (b : Board) (ts : List Track) (clock word skipped : ℕ) (stage reached
         ∙ sym (into-from skipped i next (members (cleared rest)) (set next i u) u above)
 
     -- one member leapt and stepped: its records staged, its point noted
-    pub turning-step : (us : List Track) → pointsTest (b .present) us 0 (keysOf (b .points)) (infosOf (b .points)) ≡ true →
+    turning-step : (us : List Track) → pointsTest (b .present) us 0 (keysOf (b .points)) (infosOf (b .points)) ≡ true →
         {x u : Track} {d count′ m′ : ℕ} {stage′ reached′ : List ℕ} {more′ : Bool} → x ≡ leap (trackAt next i) skipped →
         d ≡ foundBy (keysOf (b .points)) (infosOf (b .points)) i x → u ≡ step x (waits d) →
         count′ ≡ count + length (stepRecords (clock + 1) i x d) → stage′ ≡ writeAt stage (count * recordWidth) (logBytes (stepRecords (clock + 1) i x d)) →
@@ -222,6 +261,21 @@ module _ (b : Board) (ts : List Track) (clock word skipped : ℕ) (stage reached
               let n = needs-more-not more d (u .mode) (sym et ∙ e) in
               subst (Each (λ d. commandOf d ≡ 0)) (sym er) (each-more (take m reached) d (n .1) (s .no-command (n .0)));
         }
+
+    -- the same, where the step's fields are stored one after the other
+    pub turning-store : (us : List Track) → pointsTest (b .present) us 0 (keysOf (b .points)) (infosOf (b .points)) ≡ true →
+        {x : Track} {r : Stepped} {d m′ : ℕ} {stage′ reached′ : List ℕ} {more′ : Bool} → x ≡ leap (trackAt next i) skipped →
+        d ≡ foundBy (keysOf (b .points)) (infosOf (b .points)) i x → r ≡ stepped (step x (waits d)) (count + length (stepRecords (clock + 1) i x d)) →
+        stage′ ≡ writeAt stage (count * recordWidth) (logBytes (stepRecords (clock + 1) i x d)) →
+        m′ ≡ m + length (reachedBy d) → take m′ reached′ ≡ take m reached ++ reachedBy d → length reached′ ≡ length reached →
+        more′ ≡ (more || needsMore d (r .mode)) →
+        Turning b ts clock word skipped stage′ reached′ (stored next i r) (cleared rest) (left - 1) (r .count) m′ more′
+    turning-store us p {x} {r} {d} {m′} {stage′} {reached′} {more′} ex ed e es em er lr et =
+        subst (λ (ns : List Track). Turning b ts clock word skipped stage′ reached′ ns (cleared rest) (left - 1) (r .count) m′ more′)
+        (sym (stored-is next i r (omega (arith, s .long, turning-member .inside))))
+        (turning-step us p ex ed
+        (ap (λ (r : Stepped). moved (trackAt next i) (r .mode) (r .position .0) (r .passes .0) (r .due)) e ∙ step-moves (trackAt next i) x skipped (waits d) ex)
+        (ap (λ (r : Stepped). r .count) e) es em er lr et)
 
 -- ---- the ways out
 
@@ -250,12 +304,12 @@ module _ (b : Board) (ts : List Track) (clock word skipped : ℕ) (ew : word ≡
     unfolding leapInto
     over = ap (λ (is : List ℕ). leapInto skipped next is next) (none-left rest (s .steps .small) (omega (arith, s .steps .left-is)))
 
-    stepped : Stepping b leapt clock word stage reached next rest left count m
-    stepped = subst (λ (us : List Track). Stepping b leapt clock word stage reached us rest left count m) over (s .steps)
+    all-stepped : Stepping b leapt clock word stage reached next rest left count m
+    all-stepped = subst (λ (us : List Track). Stepping b leapt clock word stage reached us rest left count m) over (s .steps)
 
     -- what the commands may rely on
     pub turning-rule : TracksRule (b .present) next (take m reached)
-    turning-rule = stepped .rule
+    turning-rule = all-stepped .rule
 
     -- a command to run, or a track that plays no more
     pub turning-more : {after : List Track} {total : ℕ} {stage′ : List ℕ} {word′ : ℕ} → after ≡ tracksRun (clock + 1) (take m reached) next →
@@ -263,7 +317,7 @@ module _ (b : Board) (ts : List Track) (clock word skipped : ℕ) (ew : word ≡
         stage′ ≡ writeAt stage (count * recordWidth) (logBytes (recordsRun (clock + 1) (take m reached) next)) → word′ ≡ playingWord (b .present) after →
         Ticked b leapt clock after total stage′ word′
     turning-more ea et es eq =
-        let d = stepping-done b leapt clock word same stage reached next rest left count m stepped h ea et es in
+        let d = stepping-done b leapt clock word same stage reached next rest left count m all-stepped h ea et es in
         record { tracks = d .0; count = d .1; bytes = d .2; stage-long = d .3; word-is = eq }
 
     -- neither

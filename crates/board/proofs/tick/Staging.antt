@@ -1,7 +1,7 @@
 -- The records that a tick stages: their bytes behind one another, and how many each part of a tick writes.
 use mathlib.Core.Path.{_≡_, refl, sym, ap, subst, _∙_}
 use mathlib.Core.List.{List, [], _∷_, _++_, append-nil, append-assoc}
-use Prim.Native.Nat.{ℕ, _+_, _-_, _*_, _≤_, _<_}
+use Prim.Native.Nat.{ℕ, zero, suc, _+_, _-_, _*_, _≤_, _<_}
 use native.Mathlib.Omega.{arith}
 use native.Mathlib.Nat.{add-zero}
 use native.Mathlib.Numerals.{add-one}
@@ -12,14 +12,14 @@ use borrow.Author.Tests.{eq-eqb, ne-eqb}
 use Rattle.track.specs.declared.Track.{Track}
 use Rattle.track.specs.declared.grid.Decision.{Decision}
 use Rattle.track.specs.declared.grid.Decision.the-variants as decision
-use Rattle.track.specs.Rule.{actionCell, entered}
+use Rattle.track.specs.Rule.{Valid, actionCell, entered}
 use Rattle.track.specs.Grid.{gridOf}
 use Rattle.track.specs.Walk.{arrival, passesAt, step}
 use Rattle.track.proofs.Tests.{cond-cases}
 use Rattle.board.specs.declared.log.Record.{Record}
 use Rattle.board.specs.declared.tick.Staged.{Staged}
 use Rattle.board.specs.Log.{writeAt, recordBytes, logBytes, recordWidth}
-use Rattle.board.specs.Tick.{recordOf, pointRecords, changeRecords, refusalRecord, stepRecords, commandRecords, commanded, obeyed, obeyedRecords, reachedBy}
+use Rattle.board.specs.Tick.{recordOf, pointRecords, changeRecords, refusalRecord, stepped, stepRecords, commandRecords, commanded, obeyed, obeyedRecords, reachedBy}
 use Rattle.board.specs.Points.{waits, commandOf, targetOf, eventOf}
 use Rattle.board.proofs.log.Words.{write-write, length-write}
 use Rattle.board.proofs.log.Records.{length-record}
@@ -134,6 +134,18 @@ module _ (clock track : ℕ) (t : Track) (new l passes : ℕ) {event : ℕ} (e :
   unfolding changeRecords
   change-one n = simp (ne-eqb _ 0 (λ z. n (e ∙ z))) (ap (λ (v : ℕ). recordOf clock track 2 v (t .mode * recordWidth + new) l passes ∷ []) (sym e))
 
+-- none between equal modes
+cell-none : (t : Track) → Valid t → (m : ℕ) → m ≤ 3 → actionCell t m m ≡ 0
+cell-none t v zero h = v .cells .stopped
+cell-none t v (suc zero) h = v .cells .playing
+cell-none t v (suc (suc zero)) h = v .cells .paused
+cell-none t v (suc (suc (suc zero))) h = v .cells .waiting
+cell-none t v (suc (suc (suc (suc m)))) h = absurd (omega arith)
+
+pub change-same : (clock track : ℕ) (t : Track) (new l passes : ℕ) → Valid t → t .mode ≡ new → changeRecords clock track t new l passes ≡ []
+change-same clock track t new l passes v e =
+    change-none clock track t new l passes refl (ap (actionCell t (t .mode)) (sym e) ∙ cell-none t v (t .mode) (v .mode))
+
 -- at most one
 pub change-most : (clock track : ℕ) (t : Track) (new l passes : ℕ) → length (changeRecords clock track t new l passes) ≤ 1
 unfolding changeRecords
@@ -182,7 +194,7 @@ module _ (xs : List ℕ) (m d : ℕ) where
 pub step-out : (clock track : ℕ) (t : Track) (d : ℕ) (xs : List ℕ) (n : ℕ) {ys zs : List ℕ} {l p m k : ℕ} {u : Track} →
     (n + 2) * recordWidth ≤ length xs → l ≡ arrival t → p ≡ passesAt t l → u ≡ step t (waits d) → Written xs ys n m (pointRecords clock track l (t .passes .0) d) →
     Written ys zs m k (changeRecords clock track t (u .mode) l p) →
-    (_≡_ {A = Staged} (record { track = u; count = k }) (record { track = step t (waits d); count = n + length (stepRecords clock track t d) }))
+    (stepped u k ≡ stepped (step t (waits d)) (n + length (stepRecords clock track t d)))
     × (zs ≡ writeAt xs (n * recordWidth) (logBytes (stepRecords clock track t d)))
 unfolding stepRecords
 step-out clock track t d xs n {l = l} {p} {m} {k} {u} h el ep eu a b =
@@ -190,7 +202,7 @@ step-out clock track t d xs n {l = l} {p} {m} {k} {u} h el ep eu a b =
     λ i. pointRecords clock track (el i) (t .passes .0) d ++ changeRecords clock track t (eu i .mode) (el i) ((ep ∙ ap (passesAt t) el) i) in
     let w = written-more xs n (pointRecords clock track l (t .passes .0) d) (changeRecords clock track t (u .mode) l p) a b
     (omega (arith, point-most clock track l (t .passes .0) d, change-most clock track t (u .mode) l p)) in
-    (λ i. record { track = eu i; count = (w .0 ∙ ap (λ (rs : List Record). n + length rs) e) i }, w .1 ∙ ap (λ (rs : List Record). writeAt xs (n * recordWidth) (logBytes rs)) e)
+    (λ i. stepped (eu i) ((w .0 ∙ ap (λ (rs : List Record). n + length rs) e) i), w .1 ∙ ap (λ (rs : List Record). writeAt xs (n * recordWidth) (logBytes rs)) e)
 
 module _ (clock d : ℕ) (t : Track) (xs : List ℕ) (n : ℕ) where
   -- a track after its command, and what was written

@@ -3,13 +3,12 @@ use Rattle.board.proofs.advance.run.Proof.Standing.{Inv-loop, μ-loop, 
 use Rattle.board.proofs.advance.Cost.{leap-less, walk-less}
 use Rattle.board.proofs.advance.Advancing.{going-start, going-ends, going-done, boardAt, whole-points}
 use Rattle.board.proofs.quiet.Leaps.{unbroken-leapable, unbroken-infos}
-use Rattle.board.proofs.advance.Turning.{turning-start, turning-leapable, turning-step, turning-over, turning-rule}
+use Rattle.board.proofs.advance.Turning.{turning-start, turning-leapable, turning-store, turning-over, turning-rule}
 use Rattle.board.proofs.tick.Steps.{found-rule}
 use Rattle.board.proofs.advance.run.Statement.{statement}
 use Rattle.board.proofs.advance.run.Tie as tie
 use Rattle.board.specs.Points.{key, keysOf, infosOf, infoAt}
 use Rattle.board.specs.Tick.{InfoRule}
-use Rattle.board.specs.declared.tick.Staged.{Staged}
 use Rattle.track.proofs.Arrivals.{arrival-inside}
 use borrow.Author.Needs.{needs}
 use lib.Count.{trailingZeros}
@@ -141,8 +140,8 @@ info-at-requires c κs =
 cast-step-member : tie.Need-cast-step-member Inv-loop μ-loop Inv-ticks μ-ticks
 cast-step-member c = record { fits = (let l = member (c .before .before .before .before .before) .inside in omega arith) }
 
-add-t56 : tie.Need-add-t56 Inv-loop μ-loop Inv-ticks μ-ticks
-add-t56 c =
+add-t55 : tie.Need-add-t55 Inv-loop μ-loop Inv-ticks μ-ticks
+add-t55 c =
     let e = c .before .before .before .before .before .before .before .before .before in
     let n = short e in
     omega (arith, c .before .before .before .before .before .before .before .before .before .before .before .smaller .ensures, whole (c .before .before .before .before .before .before .before .before .before .before .before .before .before) .clock)
@@ -166,30 +165,48 @@ step-member-requires c κs =
     )
 
 mul-tracks : tie.Need-mul-tracks Inv-loop μ-loop Inv-ticks μ-ticks
-mul-tracks c = let l = member (c .before .before .before .before .before .before .before .before .before) .inside in omega arith
+mul-tracks c = let l = member (c .before .before .before .before .before .before .before .before) .inside in omega arith
 
-array-set-from-tracks : tie.Need-array-set-from-tracks Inv-loop μ-loop Inv-ticks μ-ticks
-array-set-from-tracks c = omega (arith, member (c .before .before .before .before .before .before .before .before .before) .inside, c .before .before .before .before .before .before .before .before .before .before .loop .inv .long)
+way-write-given-tracks : tie.Need-way-write-given-tracks Inv-loop μ-loop Inv-ticks μ-ticks
+way-write-given-tracks c = (omega (arith, member (c .before .before .before .before .before .before .before .before) .inside, c .before .before .before .before .before .before .before .before .before .loop .inv .long), tt)
+
+mul-tracks-2 : tie.Need-mul-tracks-2 Inv-loop μ-loop Inv-ticks μ-ticks
+mul-tracks-2 c = let l = member (c .before .before .before .before .before .before .before .before .before) .inside in omega arith
+
+way-write-given-tracks-2 : tie.Need-way-write-given-tracks-2 Inv-loop μ-loop Inv-ticks μ-ticks
+way-write-given-tracks-2 c = (omega (arith, member (c .before .before .before .before .before .before .before .before .before) .inside, c .before .before .before .before .before .before .before .before .before .before .loop .inv .long), tt, tt)
+
+mul-tracks-3 : tie.Need-mul-tracks-3 Inv-loop μ-loop Inv-ticks μ-ticks
+mul-tracks-3 c = let l = member (c .before .before .before .before .before .before .before .before .before .before) .inside in omega arith
+
+way-write-given-tracks-3 : tie.Need-way-write-given-tracks-3 Inv-loop μ-loop Inv-ticks μ-ticks
+way-write-given-tracks-3 c = (omega (arith, member (c .before .before .before .before .before .before .before .before .before .before) .inside, c .before .before .before .before .before .before .before .before .before .before .before .loop .inv .long), tt, tt)
+
+mul-tracks-4 : tie.Need-mul-tracks-4 Inv-loop μ-loop Inv-ticks μ-ticks
+mul-tracks-4 c = let l = member (c .before .before .before .before .before .before .before .before .before .before .before) .inside in omega arith
+
+way-write-given-tracks-4 : tie.Need-way-write-given-tracks-4 Inv-loop μ-loop Inv-ticks μ-ticks
+way-write-given-tracks-4 c = (omega (arith, member (c .before .before .before .before .before .before .before .before .before .before .before) .inside, c .before .before .before .before .before .before .before .before .before .before .before .before .loop .inv .long), tt)
 
 slice-aggregate-note : tie.Need-slice-aggregate-note Inv-loop μ-loop Inv-ticks μ-ticks
 slice-aggregate-note c = search needs
 
 note-requires : tie.Need-note-requires Inv-loop μ-loop Inv-ticks μ-ticks
 note-requires c κs =
-    let v = c .before .before .before .before .before .before .before .before .before .before .before .loop .inv .steps in
-    omega (arith, v .few-reached, v .reached-long, c .before .before .before .before .before .before .before .before .before .before .loop-test .taken)
+    let v = c .before .before .before .before .before .before .before .before .before .before .before .before .before .before .loop .inv .steps in
+    omega (arith, v .few-reached, v .reached-long, c .before .before .before .before .before .before .before .before .before .before .before .before .before .loop-test .taken)
 
 needs-more-requires : tie.Need-needs-more-requires Inv-loop μ-loop Inv-ticks μ-ticks
 needs-more-requires c κs = search needs
 
 cast-rest : tie.Need-cast-rest Inv-loop μ-loop Inv-ticks μ-ticks
-cast-rest c = record { fits = (let l = member (c .before .before .before .before .before .before .before .before .before .before .before .before .before .before) .inside in omega arith) }
+cast-rest c = record { fits = (let l = member (c .before .before .before .before .before .before .before .before .before .before .before .before .before .before .before .before .before) .inside in omega arith) }
 
 shl-rest : tie.Need-shl-rest Inv-loop μ-loop Inv-ticks μ-ticks
-shl-rest c = omega (arith, member (c .before .before .before .before .before .before .before .before .before .before .before .before .before .before) .inside)
+shl-rest c = omega (arith, member (c .before .before .before .before .before .before .before .before .before .before .before .before .before .before .before .before .before) .inside)
 
 sub-rest : tie.Need-sub-rest Inv-loop μ-loop Inv-ticks μ-ticks
-sub-rest c = omega (arith, member (c .before .before .before .before .before .before .before .before .before .before .before .before .before .before) .under)
+sub-rest c = omega (arith, member (c .before .before .before .before .before .before .before .before .before .before .before .before .before .before .before .before .before) .under)
 
 sub-left : tie.Need-sub-left Inv-loop μ-loop Inv-ticks μ-ticks
 sub-left c = search needs
@@ -199,14 +216,14 @@ loop-less c = search needs
 
 loop-again : tie.Need-loop-again Inv-loop μ-loop Inv-ticks μ-ticks
 loop-again c =
-    turning-step _ _ _ _ _ _ _ _ _ _ _ _ _ (c .before .before .before .before .before .before .before .before .before .before .before .before .before .before .before .loop .inv) (c .before .before .before .before .before .before .before .before .before .before .before .before .before .before .loop-test .taken) _ (whole-points (boardAt (board (entry (c .before .before .before .before .before .before .before .before .before .before .before .before .before .before .before .before .before))) (leapt (leap-at (c .before .before .before .before .before .before .before .before .before .before .before .before .before .before .before .before .before))) (turn (leap-at (c .before .before .before .before .before .before .before .before .before .before .before .before .before .before .before .before .before)) .before .ticks .clock + leap-at (c .before .before .before .before .before .before .before .before .before .before .before .before .before .before .before .before .before) .if2 .skipped) (turn (leap-at (c .before .before .before .before .before .before .before .before .before .before .before .before .before .before .before .before .before)) .before .ticks .held)) (ahead (leap-at (c .before .before .before .before .before .before .before .before .before .before .before .before .before .before .before .before .before)) .whole))
-    (c .before .before .before .before .before .before .before .before .before .before .before .before .leap .ensures)
-    (c .before .before .before .before .before .before .before .before .before .info-at .ensures ∙ ap (λ (l : ℕ). infoAt (key (trailingZeros 16 (c .before .before .before .before .before .before .before .before .before .before .before .before .before .before .before .loop .rest)) l) (keysOf (board (entry (c .before .before .before .before .before .before .before .before .before .before .before .before .before .before .before .before .before)) .points)) (infosOf (board (entry (c .before .before .before .before .before .before .before .before .before .before .before .before .before .before .before .before .before)) .points))) (c .before .before .before .before .before .before .before .before .before .before .before .arrival .ensures))
-    (ap (λ (x : Staged). x .track) (c .before .before .before .before .before .before .before .step-member .ensures .0)) (ap (λ (x : Staged). x .count) (c .before .before .before .before .before .before .before .step-member .ensures .0)) (c .before .before .before .before .before .before .before .step-member .ensures .1)
+    turning-store _ _ _ _ _ _ _ _ _ _ _ _ _ (c .before .before .before .before .before .before .before .before .before .before .before .before .before .before .before .before .before .before .loop .inv) (c .before .before .before .before .before .before .before .before .before .before .before .before .before .before .before .before .before .loop-test .taken) _ (whole-points (boardAt (board (entry (c .before .before .before .before .before .before .before .before .before .before .before .before .before .before .before .before .before .before .before .before))) (leapt (leap-at (c .before .before .before .before .before .before .before .before .before .before .before .before .before .before .before .before .before .before .before .before))) (turn (leap-at (c .before .before .before .before .before .before .before .before .before .before .before .before .before .before .before .before .before .before .before .before)) .before .ticks .clock + leap-at (c .before .before .before .before .before .before .before .before .before .before .before .before .before .before .before .before .before .before .before .before) .if2 .skipped) (turn (leap-at (c .before .before .before .before .before .before .before .before .before .before .before .before .before .before .before .before .before .before .before .before)) .before .ticks .held)) (ahead (leap-at (c .before .before .before .before .before .before .before .before .before .before .before .before .before .before .before .before .before .before .before .before)) .whole))
+    (c .before .before .before .before .before .before .before .before .before .before .before .before .before .before .before .leap .ensures)
+    (c .before .before .before .before .before .before .before .before .before .before .before .before .info-at .ensures ∙ ap (λ (l : ℕ). infoAt (key (trailingZeros 16 (c .before .before .before .before .before .before .before .before .before .before .before .before .before .before .before .before .before .before .loop .rest)) l) (keysOf (board (entry (c .before .before .before .before .before .before .before .before .before .before .before .before .before .before .before .before .before .before .before .before)) .points)) (infosOf (board (entry (c .before .before .before .before .before .before .before .before .before .before .before .before .before .before .before .before .before .before .before .before)) .points))) (c .before .before .before .before .before .before .before .before .before .before .before .before .before .before .arrival .ensures))
+    (c .before .before .before .before .before .before .before .before .before .before .step-member .ensures .0) (c .before .before .before .before .before .before .before .before .before .before .step-member .ensures .1)
     (c .before .before .before .note .ensures .0) (c .before .before .before .note .ensures .1 .0) (c .before .before .before .note .ensures .1 .1) (c .before .needs-more .ensures)
 
-add-t74 : tie.Need-add-t74 Inv-loop μ-loop Inv-ticks μ-ticks
-add-t74 c =
+add-t79 : tie.Need-add-t79 Inv-loop μ-loop Inv-ticks μ-ticks
+add-t79 c =
     let n = short (c .before .before .before .before .before) in
     omega (arith, c .before .before .before .before .before .before .before .smaller .ensures, whole (c .before .before .before .before .before .before .before .before .before) .clock)
 
@@ -281,17 +298,17 @@ returns-2 : tie.Need-returns-2 Inv-loop μ-loop Inv-ticks μ-ticks
 returns-2 c = going-ends _ _ _ _ _ _ _ _ _ (c .before .before .ticks .inv .0) (c .before .ticks-test .taken) (c .if1 .taken)
 
 same-length-3 : tie.Need-same-length-3 Inv-loop μ-loop Inv-ticks μ-ticks
-same-length-3 c = c .before .before .before .before .before .before .before .before .before .before .before .before .before .before .before .before .before .before .before .before .before .before .before .ticks .inv .0 .long
+same-length-3 c = c .before .before .before .before .before .before .before .before .before .before .before .before .before .before .before .before .before .before .before .before .before .before .before .before .before .before .ticks .inv .0 .long
 
 returns-3 : tie.Need-returns-3 Inv-loop μ-loop Inv-ticks μ-ticks
 returns-3 c =
-    let v = turning-step _ _ _ _ _ _ _ _ _ _ _ _ _ (c .before .before .before .before .before .before .before .before .before .before .before .before .before .before .before .loop .inv) (c .before .before .before .before .before .before .before .before .before .before .before .before .before .before .loop-test .taken) _ (whole-points (boardAt (board (entry (c .before .before .before .before .before .before .before .before .before .before .before .before .before .before .before .before .before))) (leapt (leap-at (c .before .before .before .before .before .before .before .before .before .before .before .before .before .before .before .before .before))) (turn (leap-at (c .before .before .before .before .before .before .before .before .before .before .before .before .before .before .before .before .before)) .before .ticks .clock + leap-at (c .before .before .before .before .before .before .before .before .before .before .before .before .before .before .before .before .before) .if2 .skipped) (turn (leap-at (c .before .before .before .before .before .before .before .before .before .before .before .before .before .before .before .before .before)) .before .ticks .held)) (ahead (leap-at (c .before .before .before .before .before .before .before .before .before .before .before .before .before .before .before .before .before)) .whole))
-    (c .before .before .before .before .before .before .before .before .before .before .before .before .leap .ensures)
-    (c .before .before .before .before .before .before .before .before .before .info-at .ensures ∙ ap (λ (l : ℕ). infoAt (key (trailingZeros 16 (c .before .before .before .before .before .before .before .before .before .before .before .before .before .before .before .loop .rest)) l) (keysOf (board (entry (c .before .before .before .before .before .before .before .before .before .before .before .before .before .before .before .before .before)) .points)) (infosOf (board (entry (c .before .before .before .before .before .before .before .before .before .before .before .before .before .before .before .before .before)) .points))) (c .before .before .before .before .before .before .before .before .before .before .before .arrival .ensures))
-    (ap (λ (x : Staged). x .track) (c .before .before .before .before .before .before .before .step-member .ensures .0)) (ap (λ (x : Staged). x .count) (c .before .before .before .before .before .before .before .step-member .ensures .0)) (c .before .before .before .before .before .before .before .step-member .ensures .1)
+    let v = turning-store _ _ _ _ _ _ _ _ _ _ _ _ _ (c .before .before .before .before .before .before .before .before .before .before .before .before .before .before .before .before .before .before .loop .inv) (c .before .before .before .before .before .before .before .before .before .before .before .before .before .before .before .before .before .loop-test .taken) _ (whole-points (boardAt (board (entry (c .before .before .before .before .before .before .before .before .before .before .before .before .before .before .before .before .before .before .before .before))) (leapt (leap-at (c .before .before .before .before .before .before .before .before .before .before .before .before .before .before .before .before .before .before .before .before))) (turn (leap-at (c .before .before .before .before .before .before .before .before .before .before .before .before .before .before .before .before .before .before .before .before)) .before .ticks .clock + leap-at (c .before .before .before .before .before .before .before .before .before .before .before .before .before .before .before .before .before .before .before .before) .if2 .skipped) (turn (leap-at (c .before .before .before .before .before .before .before .before .before .before .before .before .before .before .before .before .before .before .before .before)) .before .ticks .held)) (ahead (leap-at (c .before .before .before .before .before .before .before .before .before .before .before .before .before .before .before .before .before .before .before .before)) .whole))
+    (c .before .before .before .before .before .before .before .before .before .before .before .before .before .before .before .leap .ensures)
+    (c .before .before .before .before .before .before .before .before .before .before .before .before .info-at .ensures ∙ ap (λ (l : ℕ). infoAt (key (trailingZeros 16 (c .before .before .before .before .before .before .before .before .before .before .before .before .before .before .before .before .before .before .loop .rest)) l) (keysOf (board (entry (c .before .before .before .before .before .before .before .before .before .before .before .before .before .before .before .before .before .before .before .before)) .points)) (infosOf (board (entry (c .before .before .before .before .before .before .before .before .before .before .before .before .before .before .before .before .before .before .before .before)) .points))) (c .before .before .before .before .before .before .before .before .before .before .before .before .before .before .arrival .ensures))
+    (c .before .before .before .before .before .before .before .before .before .before .step-member .ensures .0) (c .before .before .before .before .before .before .before .before .before .before .step-member .ensures .1)
     (c .before .before .before .note .ensures .0) (c .before .before .before .note .ensures .1 .0) (c .before .before .before .note .ensures .1 .1) (c .before .needs-more .ensures) in
-    let o = turning-over _ _ _ _ _ (c .before .before .before .before .before .before .before .before .before .before .before .before .before .before .before .before .before .before .before .before .before .before .before .ticks .inv .1) _ _ _ _ _ _ _ _ v in
-    full (c .before .before .before .before .before .before .before .before .before .before .before .before .before .before .before .before .before) (omega (arith, c .if5 .taken, v .steps .few-records)) (omega (arith, c .if5 .taken))
+    let o = turning-over _ _ _ _ _ (c .before .before .before .before .before .before .before .before .before .before .before .before .before .before .before .before .before .before .before .before .before .before .before .before .before .before .ticks .inv .1) _ _ _ _ _ _ _ _ v in
+    full (c .before .before .before .before .before .before .before .before .before .before .before .before .before .before .before .before .before .before .before .before) (omega (arith, c .if5 .taken, v .steps .few-records)) (omega (arith, c .if5 .taken))
 
 same-length-4 : tie.Need-same-length-4 Inv-loop μ-loop Inv-ticks μ-ticks
 same-length-4 c = c .before .before .before .before .before .before .before .before .before .before .before .ticks .inv .0 .long
@@ -336,11 +353,17 @@ run-spec =
     add-here
     info-at-requires
     cast-step-member
-    add-t56
+    add-t55
     slice-aggregate-step-member
     step-member-requires
     mul-tracks
-    array-set-from-tracks
+    way-write-given-tracks
+    mul-tracks-2
+    way-write-given-tracks-2
+    mul-tracks-3
+    way-write-given-tracks-3
+    mul-tracks-4
+    way-write-given-tracks-4
     slice-aggregate-note
     note-requires
     needs-more-requires
@@ -350,7 +373,7 @@ run-spec =
     sub-left
     loop-less
     loop-again
-    add-t74
+    add-t79
     slice-aggregate-run-commands
     slice-aggregate-run-commands-2
     run-commands-requires

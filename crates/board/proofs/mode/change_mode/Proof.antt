@@ -13,6 +13,7 @@ use Rattle.track.proofs.Numbers.{told, natural-out, natural-take}
 use Rattle.board.proofs.rules.Passing.{length-mapped}
 use Rattle.track.proofs.Tests.{cond-yes, cond-no}
 use Rattle.track.specs.Grid.{gridOf}
+use Rattle.track.specs.Rule.{Valid}
 use Rattle.track.specs.declared.grid.Decision.the-variants.{Goes}
 use Rattle.track.specs.declared.number.Natural.the-variants.{In}
 use borrow.Author.Needs.{needs}
@@ -58,8 +59,8 @@ goes c = sym (c .before .before .grid .ensures) ∙ c .new .given .1
 low : (c : tie.After-new) → c .new .given .0 .0 ≤ 3
 low c = subst Goes? (goes c) (grid-goes _ _)
 
-valid : (c : tie.After-i) → trackAt (start (fitting c) .args .t1) (c .i .given .0 .0) .mode ≤ 3
-valid c = kept (fitting c) .tracks _ (found-in _ _ (number c)) .valid .mode
+valid : (c : tie.After-i) → Valid (trackAt (start (fitting c) .args .t1) (c .i .given .0 .0))
+valid c = kept (fitting c) .tracks _ (found-in _ _ (number c)) .valid
 
 -- up to the change, the result is that of the change
 chosen : (c : tie.After-new) →
@@ -160,7 +161,7 @@ entered-requires : tie.Need-entered-requires
 entered-requires c κs = search needs
 
 action-requires : tie.Need-action-requires
-action-requires c κs = (valid (c .before .before .before .before .before .before .before), low (c .before .before))
+action-requires c κs = (valid (c .before .before .before .before .before .before .before) .mode, low (c .before .before))
 
 returns-5 : tie.Need-returns-5
 returns-5 c =

@@ -20,7 +20,7 @@ enum-known-new c = search needs
 stage-change-requires : tie.Need-stage-change-requires
 stage-change-requires c κs =
     let p = c .before .before .before .before .before .before .before .before .pre in
-    (p .1 .1, (p .0 .mode, subst Goes? (sym (c .before .before .before .before .grid .ensures) ∙ c .before .before .new .given .1) (grid-goes _ _)))
+    (p .1 .1, (p .0, subst Goes? (sym (c .before .before .before .before .grid .ensures) ∙ c .before .before .new .given .1) (grid-goes _ _)))
 
 entered-requires : tie.Need-entered-requires
 entered-requires c κs = search needs

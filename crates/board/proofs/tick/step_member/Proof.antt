@@ -27,7 +27,7 @@ stage-change-requires c κs =
     let l = written-long (s .stage .now) (s .n) _ q (omega (arith, p .1 .1 .1 .0)) in
     let v = step-valid (s .t) (p .0) _ .mode in
     let e = c .before .step .ensures in
-    (omega (arith, l, q .0, p .1 .1 .1 .0, m), (p .0 .mode, omega (arith, p .0 .mode, subst (λ (u : Track). u .mode ≤ 3) (sym e) v)))
+    (omega (arith, l, q .0, p .1 .1 .1 .0, m), (p .0, omega (arith, p .0 .mode, subst (λ (u : Track). u .mode ≤ 3) (sym e) v)))
 
 same-length : tie.Need-same-length
 same-length c = search needs
@@ -35,10 +35,10 @@ same-length c = search needs
 returns : tie.Need-returns
 unfolding waits
 returns c =
-    let s = c .before .before .before .before .before .before .before .before .before .before .before .before .args in
-    let p = c .before .before .before .before .before .before .before .before .before .before .before .before .pre in
+    let s = c .before .before .before .before .before .before .before .before .before .before .before .before .before .before .args in
+    let p = c .before .before .before .before .before .before .before .before .before .before .before .before .before .before .pre in
     step-out (s .clock .0) (s .track) (s .t) (s .d) (s .stage .now) (s .n) (omega (arith, p .1 .1 .1 .0)) (p .1 .1 .1 .1)
-    (c .before .before .before .before .before .passes-at .ensures) (c .before .before .before .before .step .ensures) (c .before .before .before .before .before .before .before .before .stage-point .ensures) (c .before .before .stage-change .ensures)
+    (c .before .before .before .before .before .before .before .passes-at .ensures) (c .before .before .before .before .before .before .step .ensures) (c .before .before .before .before .before .before .before .before .before .before .stage-point .ensures) (c .before .before .before .before .stage-change .ensures)
 
 pub step-member-spec : {M : Type 1} → statement M
 step-member-spec =
