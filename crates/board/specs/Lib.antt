@@ -6,6 +6,7 @@ pub mod Setup
 pub mod Query
 pub mod Mode
 pub mod Tick
+pub mod Stay
 pub mod Quiet
 pub mod Advance
 pub mod Apply

@@ -18,6 +18,7 @@ mod quiet;
 pub mod row;
 mod rules;
 pub mod setup;
+mod stay;
 mod tick;
 
 #[repr(C)]
