@@ -1,12 +1,14 @@
 /*
- * GridStep sequence board: the C interface of libfirmware.a (crates/firmware). "01" is the specification.
+ * GridStep sequence board: the C interface of libfirmware.a (crates/firmware). "01" is the specification, with the
+ * followers of "02" (request 2.1).
  *
- * The firmware keeps one board and one log. A board is made by gridstep_new, and lent by pointer to the mode calls and
- * to advance; every other call goes through gridstep_call. No function keeps a pointer, allocates, or has state of its
- * own. A board may be copied, stored and compared field by field; bytes between fields (padding) mean nothing.
+ * The firmware keeps one board and one log. A board is made by gridstep_new, and lent by pointer to the mode calls
+ * and to advance; every other call goes through gridstep_call, but for master, which is gridstep_master. No function
+ * keeps a pointer, allocates, or has state of its own. A board may be copied, stored and compared field by field;
+ * bytes between fields (padding) mean nothing.
  *
  * A pointer must not be null and its memory must not overlap that of another argument; with length 0 nothing is read or
- * written through it. Any other content is allowed: what breaks 01's rules is refused 3.
+ * written through it. Any other content is allowed: what breaks the rules is refused 3.
  */
 #ifndef GRIDSTEP_H
 #define GRIDSTEP_H
@@ -34,7 +36,18 @@ enum {
 };
 
 /* A track. Its rules: min < max <= 2,000,000; min <= start < end <= max; start <= position <= end; loops 1 to 65,535;
- * passes at most the board's clock; mode 0 to 3; direction, repeat and due 0 or 1; no action between equal modes. */
+ * passes at most the board's clock; mode 0 to 3; direction, repeat and due 0 or 1; no action between equal modes.
+ *
+ * A track with thresholds is a follower: it watches how far it drifts from another track, its master. A track's
+ * distance is how far its position is from its home position, by its direction; the drift is the difference between
+ * the two distances, without sign. The band is the highest threshold that the drift exceeds (an equal drift does
+ * not), and none if either track is STOPPED. It is judged at the end of every tick; in between nothing changes it but
+ * the master call, which makes it none.
+ * Its rules: thresholds 1 to 1,000,000, each above the one before, unused ones 0 and last; the event beside a
+ * threshold 1 to 255, beside an unused one 0; the master is another track that is present, and 0 without thresholds;
+ * the band is at most the number of thresholds, and 0 at clock 0. */
+#define GRIDSTEP_THRESHOLDS 4
+
 struct gridstep_track {
     uint32_t min, max;   /* bounds, + 1,000,000 */
     uint32_t start, end; /* the span walked, + 1,000,000 */
@@ -46,6 +59,10 @@ struct gridstep_track {
     uint8_t repeat;      /* 1: never stops by itself */
     uint8_t due;         /* 1: the position is not yet visited */
     uint8_t actions[16]; /* the event of a change from mode a to mode b at a * 4 + b; 0 none */
+    uint8_t master;      /* the track that this one follows; 0 where it follows none */
+    uint8_t band;        /* the band held: 0 none, else the number of the threshold, counted from 1 */
+    uint32_t thresholds[GRIDSTEP_THRESHOLDS]; /* rising; 0 where unused */
+    uint32_t events[GRIDSTEP_THRESHOLDS];     /* beside each threshold its event; 0 where unused */
 };
 
 /* The points. Slots from count on are never read.
@@ -73,12 +90,16 @@ struct gridstep_board {
  *   kind 1, point reached: the point's event, detail = command * 16 + target, passes before this arrival counts
  *   kind 2, mode change: the action's event, detail = old mode * 16 + new mode, position and passes before rewinding
  *   kind 3, a point's command refused: track = target, the point's event, detail = command * 16 + the target's mode
+ *   kind 4, a band entered: track = follower, the threshold's event, detail = the master's number, position and passes
+ *           the follower's, after the tick's steps and commands
+ * Kind 4 is written where the band is another than the one held till then, and not none: upwards or downwards. A tick
+ * writes at most 64 records, those of kind 4 last; they are written together, or the tick is not taken.
  * Record i stands at byte 16 * i. Bytes past the held records are never written.
  */
 #define GRIDSTEP_RECORD 16
 
 /* Refusals. A refused call leaves board and log as they were. Where several hold, the first in the order
- * 9, 3 (broken board), 7, 1, 6, 2, 3, 4, 5, 8 is told. */
+ * 9, 3 (broken board), 7, 1, 6, 2, 3, 10, 4, 5, 8 is told. */
 enum {
     GRIDSTEP_ACCEPTED = 0,
     GRIDSTEP_ABSENT = 1,      /* number not 0 to 15 or, but for add track, track absent */
@@ -89,7 +110,8 @@ enum {
     GRIDSTEP_PRESENT = 6,     /* track already present */
     GRIDSTEP_CAPACITY = 7,    /* capacity below held (advance and the four mode calls) */
     GRIDSTEP_NO_ROOM = 8,     /* the mode call's record doesn't fit */
-    GRIDSTEP_GRAMMAR = 9      /* line not in the grammar; here: a row that is no call */
+    GRIDSTEP_GRAMMAR = 9,     /* line not in the grammar; here: a row that is no call */
+    GRIDSTEP_RISING = 10      /* thresholds that aren't rising, or over four */
 };
 
 /* How an advance ended. */
@@ -118,7 +140,7 @@ uint32_t gridstep_stop(struct gridstep_board *board, int64_t track, uint8_t *log
 struct gridstep_ending gridstep_advance(struct gridstep_board *board, int64_t count, uint8_t *log, size_t length);
 
 /*
- * A call as a row of seven numbers: its code, then its arguments; numbers that it has no use for are not read.
+ * A call as a row of 14 numbers: its code, then its arguments; numbers that it has no use for are not read.
  *    1 add track    track, min, max            11 play     track
  *    2 start        track, position            12 pause    track
  *    3 end          track, position            13 resume   track
@@ -129,25 +151,28 @@ struct gridstep_ending gridstep_advance(struct gridstep_board *board, int64_t co
  *                   wait, command, target      18 query: a track       track
  *    8 drop point   track, position            19 query: a point       track, position
  *    9 action       track, from, to, event     20 query: how many      track, from, to (positions, both counted)
- *   10 jump         track, position
- * A row with any other code is no call: it is refused 9.
+ *   10 jump         track, position            21 master   track, master, number of pairs, then five pairs of threshold
+ *                                                          and event
+ * Of the pairs of a master call, only as many are read as their number says; five or more are over four, and the
+ * row's five decide if a number is out of its range. A row with any other code is no call, nor is a master call with
+ * a negative number of pairs: it is refused 9. Code 21 counts in gridstep_run only; in gridstep_call it is refused 9.
  */
-#define GRIDSTEP_CALL_WIDTH 7
+#define GRIDSTEP_CALL_WIDTH 14
 
 /*
- * A reply as a row of 28 numbers: its kind, what it tells, then zeros.
+ * A reply as a row of 48 numbers: its kind, what it tells, then zeros.
  *   0 accepted
  *   1 refused      the refusal's number
  *   2 Done         ticks taken
  *   3 LogFull      ticks taken
  *   4 ClockEnd     ticks taken
  *   5 clock        clock, held
- *   6 a track      min, max, start, end, position (each + 1,000,000), passes, loops, mode, direction, repeat, due, and
- *                  the sixteen actions
+ *   6 a track      min, max, start, end, position (each + 1,000,000), passes, loops, mode, direction, repeat, due, the
+ *                  sixteen actions, master, band, the four thresholds and their four events
  *   7 a point      track, position + 1,000,000, event, wait, command, target
  *   8 how many     the number of points
  */
-#define GRIDSTEP_REPLY_WIDTH 28
+#define GRIDSTEP_REPLY_WIDTH 48
 
 /* The board after a call, and its reply. */
 struct gridstep_replied {
@@ -155,9 +180,19 @@ struct gridstep_replied {
     uint64_t reply[GRIDSTEP_REPLY_WIDTH];
 };
 
-/* Any call on a board by value: the code, then the six other numbers. Codes 11 to 15 use the log, others leave it. */
+/* Any call but master on a board by value: the code, then the six numbers behind it. Codes 11 to 15 use the log, others
+ * leave it. Code 21 is no call here: it is refused 9. */
 struct gridstep_replied gridstep_call(struct gridstep_board board, int64_t code, int64_t x1, int64_t x2, int64_t x3,
                                       int64_t x4, int64_t x5, int64_t x6, uint8_t *log, size_t length);
+
+/* The master call on a board by value: from now on `track`, which must be STOPPED, follows `master` with these
+ * thresholds, and its band is none. `pairs` has pairs_length numbers: threshold and event in turn, the thresholds
+ * rising from pair to pair, four pairs at most. Without pairs the track follows none; both tracks must be present all
+ * the same. Refused: 1 if either track is absent; 2 unless `track` is STOPPED; 3 if it is its own master, a number of
+ * any pair is out of its range, or the last event is missing; 10 if the thresholds aren't rising or are over four. It
+ * does not rewind, and takes no log, since it writes no record. */
+struct gridstep_replied gridstep_master(struct gridstep_board board, int64_t track, int64_t master,
+                                        const int64_t *pairs, size_t pairs_length);
 
 /* A list of calls from a fresh board: the board that it ends with. `calls` has calls_length numbers, a row after the
  * other; each call's reply goes to its row of `replies`, which has room for replies_length numbers. As many rows are

@@ -4,17 +4,21 @@
 #include <stdio.h>
 #include <stdlib.h>
 
-_Static_assert(sizeof(struct gridstep_track) == 48, "track");
+_Static_assert(sizeof(struct gridstep_track) == 80, "track");
 _Static_assert(offsetof(struct gridstep_track, loops) == 24, "loops");
 _Static_assert(offsetof(struct gridstep_track, due) == 29, "due");
 _Static_assert(offsetof(struct gridstep_track, actions) == 30, "actions");
+_Static_assert(offsetof(struct gridstep_track, master) == 46, "master");
+_Static_assert(offsetof(struct gridstep_track, band) == 47, "band");
+_Static_assert(offsetof(struct gridstep_track, thresholds) == 48, "thresholds");
+_Static_assert(offsetof(struct gridstep_track, events) == 64, "events");
 _Static_assert(sizeof(struct gridstep_points) == 2056, "points");
-_Static_assert(sizeof(struct gridstep_board) == 2848, "board");
-_Static_assert(offsetof(struct gridstep_board, present) == 768, "present");
-_Static_assert(offsetof(struct gridstep_board, points) == 776, "points of a board");
-_Static_assert(offsetof(struct gridstep_board, clock) == 2832, "clock");
-_Static_assert(offsetof(struct gridstep_board, held) == 2840, "held");
-_Static_assert(sizeof(struct gridstep_replied) == 3072, "replied");
+_Static_assert(sizeof(struct gridstep_board) == 3360, "board");
+_Static_assert(offsetof(struct gridstep_board, present) == 1280, "present");
+_Static_assert(offsetof(struct gridstep_board, points) == 1288, "points of a board");
+_Static_assert(offsetof(struct gridstep_board, clock) == 3344, "clock");
+_Static_assert(offsetof(struct gridstep_board, held) == 3352, "held");
+_Static_assert(sizeof(struct gridstep_replied) == 3744, "replied");
 _Static_assert(sizeof(struct gridstep_ending) == 8, "ending");
 
 static struct gridstep_board board;

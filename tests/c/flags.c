@@ -5,7 +5,7 @@
 #include <stdlib.h>
 #include <string.h>
 
-enum { LOG = 64, FLAGS = 3, MODES = 4, VALUES = 256, CODES = 20 };
+enum { LOG = 64, FLAGS = 3, MODES = 4, VALUES = 256, CODES = 20, PAIRS = 2 };
 
 static const char *const names[FLAGS] = {"direction", "repeat", "due"};
 static unsigned long tried;
@@ -28,21 +28,34 @@ static uint8_t *flag_of(struct gridstep_track *t, int flag)
     return flags[flag];
 }
 
-/* The bytes of every field; those between fields mean nothing. */
+/* The bytes of every field; those between fields mean nothing. A track has none between its own. */
 static int same(const struct gridstep_board *a, const struct gridstep_board *b)
 {
-    const size_t track = offsetof(struct gridstep_track, actions) + sizeof a->tracks->actions;
-    for (int i = 0; i < 16; i++)
-        if (memcmp(&a->tracks[i], &b->tracks[i], track))
-            return 0;
-    return !memcmp(&a->points, &b->points, sizeof a->points) && a->present == b->present && a->clock == b->clock &&
-           a->held == b->held;
+    return !memcmp(a->tracks, b->tracks, sizeof a->tracks) && !memcmp(&a->points, &b->points, sizeof a->points) &&
+           a->present == b->present && a->clock == b->clock && a->held == b->held;
 }
 
 static struct gridstep_replied row(int64_t code, int64_t track)
 {
     tried++;
     return gridstep_call(board, code, track, 2, 4, 0, 0, 0, log_bytes, LOG);
+}
+
+/* Track 0 follows 15, and 15 follows 0; another number names an absent master. */
+static struct gridstep_replied master(int64_t track, size_t numbers)
+{
+    static const int64_t pairs[2 * PAIRS] = {3, 31, 5, 51};
+    tried++;
+    return gridstep_master(board, track, 15 - track, pairs, numbers);
+}
+
+static void refused_as_master(int64_t track, const char *flag, int value)
+{
+    for (size_t numbers = 0; numbers <= 2 * PAIRS; numbers++) {
+        struct gridstep_replied r = master(track, numbers);
+        expect(r.reply[0] == 1 && r.reply[1] == GRIDSTEP_VALUE, "a master call is not refused 3", flag, value);
+        expect(same(&r.board, &was), "a master call changed the board", flag, value);
+    }
 }
 
 static void refused_by_the_door(int64_t track, const char *flag, int value)
@@ -78,6 +91,7 @@ static void try(int64_t track, int flag, int mode, int value)
     if (value > 1) {
         refused_by_the_door(track, names[flag], value);
         refused_where_lent(track, names[flag], value);
+        refused_as_master(track, names[flag], value);
     } else {
         expect(row(17, track).reply[0] == 5, "the clock is not told", names[flag], value);
     }
@@ -98,6 +112,12 @@ static void set_up(void)
         expect(r.reply[0] == 0, "a set-up call is refused", "no flag", 0);
         board = r.board;
     }
+    for (int64_t track = 0; track <= 15; track += 15) {
+        struct gridstep_replied r = master(track, 2 * PAIRS);
+        expect(r.reply[0] == 0 && r.board.tracks[track].thresholds[1] == 5, "a master call is refused", "no flag", 0);
+        board = r.board;
+    }
+    expect(row(21, 0).reply[1] == GRIDSTEP_GRAMMAR, "master by its code is a call", "no flag", 0);
 }
 
 int main(void)

@@ -15,7 +15,7 @@ pub fn agree<B: Alike>(board: &mut B, model: &mut Model, call: Call, log: &[u8])
 /// Each call is lent some part of the log, so that 7 comes.
 pub fn other_logs<B: Alike>() {
     let (mut short, mut calls) = (0, 0);
-    for (seed, profile) in (0..800).zip(PROFILES[..6].iter().cycle()) {
+    for (seed, profile) in (0..800).zip(PROFILES[..7].iter().cycle()) {
         let mut rng = Rng(seed);
         let case = case(*profile, seed + 70_000);
         let (mut board, mut model) = (B::begun(case.clock), Model::begun(case.clock));

@@ -1,7 +1,16 @@
-//! The calls of 01 as values, their answers, and both as rows of numbers.
+//! The calls of 01 and of 02's followers as values, their answers, and both as rows of numbers.
 
 use crate::model::Point;
-use crate::track::Track;
+use crate::track::{THRESHOLDS, Track};
+
+/// Numbers of an encoded call: its code and thirteen, of which all calls but master use six at most.
+pub const CALL_WIDTH: usize = 14;
+/// Numbers of an encoded reply.
+pub const REPLY_WIDTH: usize = 48;
+/// Numbers that tell a track: eleven fields, sixteen actions, master, band, thresholds and events.
+pub const TRACK_WIDTH: usize = 11 + 16 + 2 + 2 * THRESHOLDS;
+/// Pairs of threshold and event that an encoded call has room for: one more than are allowed.
+pub const PAIRS_MOST: usize = THRESHOLDS + 1;
 
 /// 01, "Turned down".
 pub mod refusal {
@@ -14,6 +23,38 @@ pub mod refusal {
     pub const CAPACITY: u8 = 7;
     pub const NO_ROOM: u8 = 8;
     pub const GRAMMAR: u8 = 9;
+    /// 02, 2.1: thresholds not rising, or over four
+    pub const THRESHOLDS: u8 = 10;
+}
+
+/// The pairs of an encoded master call, threshold and event in turn. Five stand for five or more: over four.
+#[derive(Clone, Copy, Debug, PartialEq, Eq)]
+pub struct Pairs {
+    count: usize,
+    /// zeros past the count
+    numbers: [i64; 2 * PAIRS_MOST],
+}
+
+impl Pairs {
+    pub const NONE: Pairs = Pairs { count: 0, numbers: [0; 2 * PAIRS_MOST] };
+
+    /// Of those given, five at most.
+    pub fn new(pairs: &[[i64; 2]]) -> Pairs {
+        let count = pairs.len().min(PAIRS_MOST);
+        let mut numbers = [0; 2 * PAIRS_MOST];
+        numbers[..2 * count].copy_from_slice(pairs[..count].as_flattened());
+        Pairs { count, numbers }
+    }
+
+    /// By the number of pairs and the numbers behind it; a negative number of pairs is no call's.
+    fn decode(count: i64, numbers: &[i64; 2 * PAIRS_MOST]) -> Option<Pairs> {
+        let count = usize::try_from(count).ok()?.min(PAIRS_MOST);
+        Some(Pairs::new(&numbers.as_chunks().0[..count]))
+    }
+
+    pub fn numbers(&self) -> &[i64] {
+        &self.numbers[..2 * self.count]
+    }
 }
 
 /// One variant for each call; the first number is the track's where a track is named.
@@ -43,38 +84,52 @@ pub enum Call {
     ShowTrack(i64),
     ShowPoint(i64, i64),
     Count(i64, i64, i64),
+    /// track, master, and the follower's pairs
+    Master(i64, i64, Pairs),
+}
+
+/// A row of so many numbers, zeros after.
+fn row(numbers: &[i64]) -> [i64; CALL_WIDTH] {
+    let mut row = [0; CALL_WIDTH];
+    row[..numbers.len()].copy_from_slice(numbers);
+    row
 }
 
 impl Call {
-    /// Code and six arguments, 0 where unused.
-    pub fn encode(&self) -> [i64; 7] {
+    /// Code and arguments, 0 where unused.
+    pub fn encode(&self) -> [i64; CALL_WIDTH] {
         match *self {
-            Call::Track(t, min, max) => [1, t, min, max, 0, 0, 0],
-            Call::Start(t, p) => [2, t, p, 0, 0, 0, 0],
-            Call::End(t, p) => [3, t, p, 0, 0, 0, 0],
-            Call::Loops(t, n) => [4, t, n, 0, 0, 0, 0],
-            Call::Repeat(t, f) => [5, t, f, 0, 0, 0, 0],
-            Call::Direction(t, d) => [6, t, d, 0, 0, 0, 0],
-            Call::Point(t, p, event, wait, command, target) => [7, t, p, event, wait, command, target],
-            Call::Drop(t, p) => [8, t, p, 0, 0, 0, 0],
-            Call::Action(t, from, to, event) => [9, t, from, to, event, 0, 0],
-            Call::Jump(t, p) => [10, t, p, 0, 0, 0, 0],
-            Call::Play(t) => [11, t, 0, 0, 0, 0, 0],
-            Call::Pause(t) => [12, t, 0, 0, 0, 0, 0],
-            Call::Resume(t) => [13, t, 0, 0, 0, 0, 0],
-            Call::Stop(t) => [14, t, 0, 0, 0, 0, 0],
-            Call::Advance(n) => [15, n, 0, 0, 0, 0, 0],
-            Call::Clear => [16, 0, 0, 0, 0, 0, 0],
-            Call::Clock => [17, 0, 0, 0, 0, 0, 0],
-            Call::ShowTrack(t) => [18, t, 0, 0, 0, 0, 0],
-            Call::ShowPoint(t, p) => [19, t, p, 0, 0, 0, 0],
-            Call::Count(t, a, b) => [20, t, a, b, 0, 0, 0],
+            Call::Track(t, min, max) => row(&[1, t, min, max]),
+            Call::Start(t, p) => row(&[2, t, p]),
+            Call::End(t, p) => row(&[3, t, p]),
+            Call::Loops(t, n) => row(&[4, t, n]),
+            Call::Repeat(t, f) => row(&[5, t, f]),
+            Call::Direction(t, d) => row(&[6, t, d]),
+            Call::Point(t, p, event, wait, command, target) => row(&[7, t, p, event, wait, command, target]),
+            Call::Drop(t, p) => row(&[8, t, p]),
+            Call::Action(t, from, to, event) => row(&[9, t, from, to, event]),
+            Call::Jump(t, p) => row(&[10, t, p]),
+            Call::Play(t) => row(&[11, t]),
+            Call::Pause(t) => row(&[12, t]),
+            Call::Resume(t) => row(&[13, t]),
+            Call::Stop(t) => row(&[14, t]),
+            Call::Advance(n) => row(&[15, n]),
+            Call::Clear => row(&[16]),
+            Call::Clock => row(&[17]),
+            Call::ShowTrack(t) => row(&[18, t]),
+            Call::ShowPoint(t, p) => row(&[19, t, p]),
+            Call::Count(t, a, b) => row(&[20, t, a, b]),
+            Call::Master(t, m, pairs) => {
+                let mut row = row(&[21, t, m, pairs.count as i64]);
+                row[4..].copy_from_slice(&pairs.numbers);
+                row
+            }
         }
     }
 
     /// The call of a code; any other code is no call. Unused arguments are not read.
-    pub fn decode(row: &[i64; 7]) -> Option<Call> {
-        let [code, a, b, c, d, e, f] = *row;
+    pub fn decode(row: &[i64; CALL_WIDTH]) -> Option<Call> {
+        let [code, a, b, c, d, e, f, ..] = *row;
         Some(match code {
             1 => Call::Track(a, b, c),
             2 => Call::Start(a, b),
@@ -96,6 +151,7 @@ impl Call {
             18 => Call::ShowTrack(a),
             19 => Call::ShowPoint(a, b),
             20 => Call::Count(a, b, c),
+            21 => Call::Master(a, b, Pairs::decode(c, row[4..].as_array()?)?),
             _ => return None,
         })
     }
@@ -124,8 +180,8 @@ pub const BIAS: i64 = 1_000_000;
 
 impl Reply {
     /// Kind, then its values, zeros after.
-    pub fn encode(&self) -> [u64; 28] {
-        let mut row = [0; 28];
+    pub fn encode(&self) -> [u64; REPLY_WIDTH] {
+        let mut row = [0; REPLY_WIDTH];
         let (kind, values) = self.values();
         row[0] = kind;
         row[1..=values.len()].copy_from_slice(&values);
@@ -133,7 +189,7 @@ impl Reply {
     }
 
     /// The reply of a row; none unless that very row is its encoding.
-    pub fn decode(row: &[u64; 28]) -> Option<Reply> {
+    pub fn decode(row: &[u64; REPLY_WIDTH]) -> Option<Reply> {
         let [kind, a, b, ..] = *row;
         let reply = match kind {
             0 => Reply::Accepted,
@@ -142,7 +198,7 @@ impl Reply {
             3 => Reply::LogFull(a as u32),
             4 => Reply::ClockEnd(a as u32),
             5 => Reply::Clock { clock: a as u32, held: b },
-            6 => Reply::Track(track_of(row[1..].as_array()?)),
+            6 => Reply::Track(track_of(row[1..=TRACK_WIDTH].as_array()?)),
             7 => Reply::Point(a as i64, b as i64 - BIAS, point_of(row[3..7].as_array()?)),
             8 => Reply::Count(a),
             _ => return None,
@@ -169,16 +225,20 @@ fn track_values(track: &Track) -> Vec<u64> {
     let positions = [track.min, track.max, track.start, track.end, track.position].map(|p| p + BIAS);
     let others = [track.passes, track.loops, track.mode, track.direction, track.repeat, track.due];
     let cells = track.actions.as_flattened();
-    positions.iter().chain(&others).chain(cells).map(|&n| n as u64).collect()
+    let followed = [&[track.master, track.band], &track.thresholds[..], &track.events].concat();
+    positions.iter().chain(&others).chain(cells).chain(&followed).map(|&n| n as u64).collect()
 }
 
 /// A track by the numbers that its reply has.
-pub fn track_of(numbers: &[u64; 27]) -> Track {
+pub fn track_of(numbers: &[u64; TRACK_WIDTH]) -> Track {
     let numbers = numbers.map(|n| n as i64);
     let [min, max, start, end, position] = std::array::from_fn(|at| numbers[at] - BIAS);
     let [passes, loops, mode, direction, repeat, due] = std::array::from_fn(|at| numbers[5 + at]);
     let actions = std::array::from_fn(|from| std::array::from_fn(|to| numbers[11 + from * 4 + to]));
-    Track { min, max, start, end, position, passes, loops, mode, direction, repeat, due, actions }
+    let [master, band] = std::array::from_fn(|at| numbers[27 + at]);
+    let [thresholds, events] = [29, 29 + THRESHOLDS].map(|from| std::array::from_fn(|at| numbers[from + at]));
+    let walk = Track { start, end, position, passes, loops, mode, direction, repeat, due, ..Track::new(min, max) };
+    Track { actions, master, band, thresholds, events, ..walk }
 }
 
 fn point_values(track: i64, position: i64, point: &Point) -> Vec<u64> {
@@ -203,6 +263,8 @@ pub trait Board: Sized {
     fn drop_point(&mut self, t: i64, p: i64) -> Reply;
     fn action(&mut self, t: i64, from: i64, to: i64, event: i64) -> Reply;
     fn jump(&mut self, t: i64, p: i64) -> Reply;
+    /// `numbers` are pairs of threshold and event, any number of them.
+    fn master(&mut self, t: i64, m: i64, numbers: &[i64]) -> Reply;
     fn mode_call(&mut self, command: i64, t: i64, log: &mut [u8]) -> Reply;
     fn advance(&mut self, count: i64, log: &mut [u8]) -> Reply;
     fn clear(&mut self) -> Reply;
@@ -233,11 +295,12 @@ pub trait Board: Sized {
             Call::ShowTrack(t) => self.show_track(t),
             Call::ShowPoint(t, p) => self.show_point(t, p),
             Call::Count(t, a, b) => self.count(t, a, b),
+            Call::Master(t, m, pairs) => self.master(t, m, pairs.numbers()),
         }
     }
 
     /// An encoded call; one that is no call is refused 9, ahead of everything.
-    fn apply_encoded(&mut self, row: &[i64; 7], log: &mut [u8]) -> Reply {
+    fn apply_encoded(&mut self, row: &[i64; CALL_WIDTH], log: &mut [u8]) -> Reply {
         match Call::decode(row) {
             Some(call) => self.apply(call, log),
             None => Reply::Refused(refusal::GRAMMAR),

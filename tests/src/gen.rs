@@ -1,10 +1,16 @@
 //! Lists of calls from fixed seeds. The maker keeps a model beside the list, so that most calls do something
 //! and no advance asks the model for too many single ticks.
 
+mod cut;
+mod pairs;
+mod plan;
+
 use crate::call::{Board, Call, Reply};
-use crate::lists::in_run;
 use crate::model::{CLOCK_END, COUNT_MOST, Model};
 use crate::track::{BOUND, LOOPS_MOST, PAUSED, STOPPED, Track, grid};
+pub use cut::recut;
+use plan::{LARGE, Plan, plan};
+pub use plan::{PROFILES, Profile};
 
 /// splitmix64.
 pub struct Rng(pub u64);
@@ -32,32 +38,6 @@ impl Rng {
     }
 }
 
-#[derive(Clone, Copy, Debug, PartialEq, Eq)]
-pub enum Profile {
-    Typical,
-    /// short spans, points nearly everywhere, commands at each other
-    Dense,
-    /// arguments at the edges of their ranges
-    Edges,
-    /// logs of 0 to 80 bytes or a few records
-    SmallLog,
-    /// arguments at the ends of i64 and beside what fewer bits hold
-    Extremes,
-    Queries,
-    /// about 256 points
-    Full,
-}
-
-pub const PROFILES: [Profile; 7] = [
-    Profile::Typical,
-    Profile::Dense,
-    Profile::Edges,
-    Profile::SmallLog,
-    Profile::Extremes,
-    Profile::Queries,
-    Profile::Full,
-];
-
 /// A list for a board that is fresh but for `clock` idle ticks, and for a log of any content.
 /// A board that cannot be begun at a clock takes `Advance(clock)` first.
 #[derive(Clone, Debug)]
@@ -67,55 +47,14 @@ pub struct Case {
     pub calls: Vec<Call>,
 }
 
-/// How a profile draws.
-struct Plan {
-    /// tracks and points of the set-up, at most
-    tracks: i64,
-    points: i64,
-    /// locations of a track beyond its min, at most
-    reach: i64,
-    /// actions of a track in the set-up, at most
-    actions: i64,
-    /// calls after the set-up
-    calls: i64,
-    /// arguments in a hundred from an edge, and whether from the ends of i64 too
-    wild: i64,
-    extremes: bool,
-    /// set-up calls, mode calls, advances, clears and queries in the draw
-    weights: [i64; 5],
-}
-
-fn plan(profile: Profile) -> Plan {
-    let usual = Plan {
-        tracks: 5,
-        points: 16,
-        reach: 12,
-        actions: 4,
-        calls: 50,
-        wild: 2,
-        extremes: false,
-        weights: [20, 25, 40, 2, 5],
-    };
-    match profile {
-        Profile::Typical => usual,
-        Profile::Dense => Plan { tracks: 22, points: 90, reach: 4, actions: 12, weights: [8, 30, 50, 4, 2], ..usual },
-        Profile::Edges => Plan { wild: 35, ..usual },
-        Profile::SmallLog => Plan { reach: 5, actions: 8, weights: [8, 40, 45, 10, 4], ..usual },
-        Profile::Extremes => Plan { wild: 25, extremes: true, weights: [40, 15, 25, 2, 20], ..usual },
-        Profile::Queries => Plan { calls: 80, wild: 4, weights: [15, 15, 25, 2, 60], ..usual },
-        Profile::Full => Plan { tracks: 16, points: 700, reach: 90, weights: [50, 15, 20, 2, 20], ..usual },
-    }
-}
-
-/// More ticks than these are asked only of a board that stops before.
-const LARGE: i64 = 2_000;
-
 struct Maker {
     rng: Rng,
     plan: Plan,
     board: Model,
     log: Vec<u8>,
     calls: Vec<Call>,
+    /// the reach that tracks of one length have
+    alike: i64,
 }
 
 pub fn case(profile: Profile, seed: u64) -> Case {
@@ -123,20 +62,27 @@ pub fn case(profile: Profile, seed: u64) -> Case {
     let clock = if rng.chance(12) { CLOCK_END - rng.between(0, 300) } else { 0 };
     let length = match profile {
         Profile::SmallLog if rng.chance(60) => rng.between(0, 80),
+        Profile::Followers if rng.chance(25) => rng.between(0, 80),
+        Profile::Followers if rng.chance(60) => rng.between(5, 30) * 16 + rng.between(0, 15),
         Profile::SmallLog => rng.between(5, 14) * 16 + rng.between(0, 15),
         _ => rng.between(20, 400) * 16 + rng.between(0, 15),
     };
     let log: Vec<u8> = (0..length).map(|_| rng.bits() as u8).collect();
     let board = Model { clock, ..Model::fresh() };
-    let mut maker = Maker { rng, plan: plan(profile), board, log: log.clone(), calls: Vec::new() };
-    maker.fill();
-    Case { clock, log, calls: maker.calls }
+    let calls = made(rng, plan(profile), board, log.clone());
+    Case { clock, log, calls }
 }
 
-/// A list of so many calls after the set-up, for a fresh board and a log of so many bytes.
+/// A list of so many calls after the set-up, for a fresh board and a log of so many bytes; no master call is among them,
+/// since scripts have no line for it.
 pub fn long(profile: Profile, seed: u64, calls: i64, bytes: usize) -> Vec<Call> {
-    let (rng, plan) = (Rng(seed), Plan { calls, ..plan(profile) });
-    let mut maker = Maker { rng, plan, board: Model::fresh(), log: vec![0; bytes], calls: Vec::new() };
+    let plan = Plan { calls, masters: 0, followers: None, large: LARGE, ..plan(profile) };
+    made(Rng(seed), plan, Model::fresh(), vec![0; bytes])
+}
+
+fn made(mut rng: Rng, plan: Plan, board: Model, log: Vec<u8>) -> Vec<Call> {
+    let alike = rng.between(1, plan.reach);
+    let mut maker = Maker { rng, plan, board, log, calls: Vec::new(), alike };
     maker.fill();
     maker.calls
 }
@@ -148,6 +94,7 @@ impl Maker {
             self.push(call);
         }
         (0..16).for_each(|t| self.prepare(t));
+        self.name_masters();
         for _ in 0..self.rng.between(self.plan.points / 2, self.plan.points) {
             let call = if self.rng.chance(85) { self.new_point() } else { self.set_up() };
             self.push(call);
@@ -158,6 +105,10 @@ impl Maker {
             }
         }
         for _ in 0..self.plan.calls {
+            if self.by_chance(|followers| followers.moves) {
+                self.move_at_one_go();
+                continue;
+            }
             let call = self.draw();
             self.push(call);
         }
@@ -170,6 +121,7 @@ impl Maker {
         }
         let most = self.rng.pick(&[3, 3, 3, 400]);
         let (loops, repeat, direction) = (self.number(1, most), self.number(0, 1), self.number(0, 1));
+        let repeat = if self.by_chance(|followers| followers.repeats) { 1 } else { repeat };
         self.push(Call::Loops(t, loops));
         self.push(Call::Repeat(t, repeat));
         self.push(Call::Direction(t, direction));
@@ -180,8 +132,11 @@ impl Maker {
     }
 
     fn push(&mut self, call: Call) {
-        self.board.apply(call, &mut self.log);
+        let reply = self.board.apply(call, &mut self.log);
         self.calls.push(call);
+        if matches!(reply, Reply::LogFull(_)) && self.by_chance(|followers| followers.clears) {
+            self.push(Call::Clear);
+        }
     }
 
     fn draw(&mut self) -> Call {
@@ -251,6 +206,7 @@ impl Maker {
             return Call::Track(t, self.number(-BOUND, BOUND - 1), self.number(1 - BOUND, BOUND));
         }
         let reach = self.rng.between(1, self.plan.reach);
+        let reach = if self.by_chance(|followers| followers.alike) { self.alike } else { reach };
         let min = match self.rng.between(0, 5) {
             0 => -BOUND,
             1 => BOUND - reach,
@@ -282,6 +238,9 @@ impl Maker {
     }
 
     fn set_up(&mut self) -> Call {
+        if self.rng.chance(self.plan.masters) {
+            return self.master();
+        }
         let t = self.standing();
         match self.rng.between(0, 22) {
             0 => self.new_track(),
@@ -340,7 +299,7 @@ impl Maker {
             2..=14 => 1,
             15..=27 => self.rng.between(2, 12),
             28..=37 => self.rng.between(13, 200),
-            38 => self.rng.between(201, LARGE),
+            38 => self.rng.between(201, self.plan.large),
             _ => self.rng.pick(&[COUNT_MOST, COUNT_MOST - 1, CLOCK_END, CLOCK_END + 1, 1 << 31]),
         };
         let wild = self.plan.wild > 10 && self.rng.chance(10);
@@ -350,7 +309,7 @@ impl Maker {
 
     /// A count that the model can tick through: small, refused, or stopped soon by the log or the clock.
     fn bounded(&mut self, count: i64) -> i64 {
-        if count <= LARGE || count > COUNT_MOST {
+        if count <= self.plan.large || count > COUNT_MOST {
             return count;
         }
         match self.board.clone().advance(LARGE, &mut self.log.clone()) {
@@ -358,31 +317,4 @@ impl Maker {
             _ => count,
         }
     }
-}
-
-/// The list with each run whose sum is within 32 bits cut anew.
-pub fn recut(calls: &[Call], seed: u64) -> Vec<Call> {
-    let mut rng = Rng(seed);
-    let mut list = Vec::new();
-    for run in calls.chunk_by(|a, b| in_run(a).is_some() && in_run(b).is_some()) {
-        match run.iter().map(in_run).sum::<Option<i64>>() {
-            Some(sum) if sum <= COUNT_MOST => list.extend(pieces(sum, &mut rng).into_iter().map(Call::Advance)),
-            _ => list.extend_from_slice(run),
-        }
-    }
-    list
-}
-
-/// Counts that add up to a sum: one, a few with many among the first ticks, or single ticks.
-fn pieces(sum: i64, rng: &mut Rng) -> Vec<i64> {
-    if sum <= 60 && rng.chance(30) {
-        let mut ticks = vec![1; sum as usize];
-        ticks.insert(rng.between(0, sum) as usize, 0);
-        return ticks;
-    }
-    let first = if rng.chance(50) { sum.min(40) } else { sum };
-    let mut cuts: Vec<i64> = (0..rng.between(0, 5)).map(|_| rng.between(0, first)).collect();
-    cuts.extend([0, sum]);
-    cuts.sort_unstable();
-    cuts.windows(2).map(|cut| cut[1] - cut[0]).collect()
 }

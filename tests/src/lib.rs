@@ -1,10 +1,11 @@
-//! A second model of 01 (the GridStep sequence board), a leaping peer, the proved library, and lists of calls
+//! A second model of 01 (the GridStep sequence board) and of 02's followers, a leaping peer, the proved library, and lists of calls
 //! to compare them by.
 
 pub mod against;
 pub mod bench;
 pub mod call;
 pub mod cards;
+pub mod followers;
 pub mod gen;
 pub mod library;
 pub mod lists;
@@ -12,6 +13,7 @@ pub mod model;
 pub mod peer;
 pub mod plot;
 pub mod record;
+pub mod refused;
 pub mod script;
 pub mod track;
 pub mod traps;

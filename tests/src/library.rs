@@ -3,7 +3,7 @@
 
 pub mod raw;
 
-use crate::call::{Board, Call, Reply};
+use crate::call::{Board, CALL_WIDTH, Call, REPLY_WIDTH, Reply};
 use crate::model::{self, Model, TRACKS};
 
 // SAFETY, for every call below: the structs have the layout of the library's (tests/layout.rs), each pointer comes
@@ -14,12 +14,30 @@ pub struct Library {
     pub board: raw::Board,
 }
 
+/// Numbers that gridstep_call takes: code and six.
+pub const DOOR_WIDTH: usize = 7;
+
 impl Library {
-    /// Any call by its code and six numbers: the row of its reply.
-    pub fn door(&mut self, row: &[i64; 7], log: &mut [u8]) -> [u64; 28] {
+    /// Any call but master by its code and six numbers: the row of its reply.
+    pub fn door(&mut self, row: &[i64; DOOR_WIDTH], log: &mut [u8]) -> [u64; REPLY_WIDTH] {
         let raw::Replied { board, reply } = enter(self.board, row, log);
         self.board = board;
         reply
+    }
+
+    /// The master call with any number of numbers: the row of its reply.
+    pub fn master_door(&mut self, t: i64, m: i64, numbers: &[i64]) -> [u64; REPLY_WIDTH] {
+        let replied = unsafe { raw::gridstep_master(self.board, t, m, numbers.as_ptr(), numbers.len()) };
+        self.board = replied.board;
+        replied.reply
+    }
+
+    /// A row of a list by the function that takes its call: master's own, else the door.
+    pub fn by_row(&mut self, row: &[i64; CALL_WIDTH], log: &mut [u8]) -> [u64; REPLY_WIDTH] {
+        match Call::decode(row) {
+            Some(Call::Master(t, m, pairs)) => self.master_door(t, m, pairs.numbers()),
+            _ => self.door(first(row), log),
+        }
     }
 
     /// An encoded list from a fresh board: the board that it ends with.
@@ -32,12 +50,12 @@ impl Library {
 
     /// A call that takes no log.
     fn change(&mut self, call: Call) -> Reply {
-        told(&self.door(&call.encode(), &mut []))
+        told(&self.door(first(&call.encode()), &mut []))
     }
 
     /// A query: it leaves the board as it is.
     fn ask(&self, call: Call) -> Reply {
-        let raw::Replied { board, reply } = enter(self.board, &call.encode(), &mut []);
+        let raw::Replied { board, reply } = enter(self.board, first(&call.encode()), &mut []);
         assert!(board == self.board, "{call:?} changed the board");
         told(&reply)
     }
@@ -63,12 +81,17 @@ impl Library {
     }
 }
 
-fn enter(board: raw::Board, row: &[i64; 7], log: &mut [u8]) -> raw::Replied {
+/// The numbers of a row that the door takes.
+fn first(row: &[i64; CALL_WIDTH]) -> &[i64; DOOR_WIDTH] {
+    row[..DOOR_WIDTH].as_array().expect("a row is wider")
+}
+
+fn enter(board: raw::Board, row: &[i64; DOOR_WIDTH], log: &mut [u8]) -> raw::Replied {
     let [code, x1, x2, x3, x4, x5, x6] = *row;
     unsafe { raw::gridstep_call(board, code, x1, x2, x3, x4, x5, x6, log.as_mut_ptr(), log.len()) }
 }
 
-fn told(row: &[u64; 28]) -> Reply {
+fn told(row: &[u64; REPLY_WIDTH]) -> Reply {
     Reply::decode(row).unwrap_or_else(|| panic!("no reply: {row:?}"))
 }
 
@@ -121,6 +144,10 @@ impl Board for Library {
 
     fn jump(&mut self, t: i64, p: i64) -> Reply {
         self.change(Call::Jump(t, p))
+    }
+
+    fn master(&mut self, t: i64, m: i64, numbers: &[i64]) -> Reply {
+        told(&self.master_door(t, m, numbers))
     }
 
     fn mode_call(&mut self, command: i64, t: i64, log: &mut [u8]) -> Reply {

@@ -109,8 +109,8 @@ pub fn merged(calls: &[Call]) -> Option<Vec<Call>> {
 #[derive(Debug, Default)]
 pub struct Tally {
     pub kinds: [u32; 9],
-    pub refusals: [u32; 10],
-    pub records: [u32; 4],
+    pub refusals: [u32; 11],
+    pub records: [u32; 5],
 }
 
 impl Tally {
@@ -128,12 +128,14 @@ impl Tally {
         sum(&mut self.records, &other.records);
     }
 
-    /// Every answer's kind, every kind of record and every refusal that a list can meet came: 5 where boards are full;
-    /// 7 never, since a list has one log.
-    pub fn assert_whole(&self, full: bool) {
-        let refusals = (1..10).filter(|&number| number != 7 && (number != 5 || full));
+    /// Every answer's kind came, every kind of record up to the last named, and each of these refusals.
+    pub fn assert_whole(&self, last_kind: u8, refusals: &[u8]) {
         assert!(self.kinds.iter().all(|&times| times > 0), "an answer never came: {self:?}");
-        assert!(refusals.into_iter().all(|number: usize| self.refusals[number] > 0), "a refusal never came: {self:?}");
-        assert!(self.records[1..].iter().all(|&times| times > 0), "a kind of record never came: {self:?}");
+        assert!(
+            refusals.iter().all(|&number| self.refusals[usize::from(number)] > 0),
+            "a refusal never came: {self:?}"
+        );
+        let records = &self.records[1..=usize::from(last_kind)];
+        assert!(records.iter().all(|&times| times > 0), "a kind of record never came: {self:?}");
     }
 }

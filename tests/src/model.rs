@@ -1,9 +1,12 @@
-//! The board of 01 in plain Rust: single ticks, nothing leapt, every number an i64.
+//! The board of 01 with 02's followers (2.1) in plain Rust: single ticks, nothing leapt, every number an i64.
 //! "Decision n" is an entry of docs/DECISIONS.md, where 01 leaves a point open.
 
+mod stage;
+
 use crate::call::{Board, Reply, refusal};
-use crate::record::{self, RECORD, Record, capacity};
-use crate::track::{BOUND, LOOPS_MOST, PAUSED, PLAYING, STOPPED, Track, WAITING, flag, grid};
+use crate::record::{RECORD, capacity};
+use crate::track::{BOUND, DRIFT_MOST, LOOPS_MOST, PAUSED, PLAYING, STOPPED, THRESHOLDS, Track, WAITING, flag, grid};
+use stage::Stage;
 use std::collections::BTreeMap;
 
 pub const TRACKS: usize = 16;
@@ -23,72 +26,16 @@ pub struct Point {
     pub target: i64,
 }
 
-/// A tick or a mode call worked out apart from board and log, with the clock that its records carry.
-struct Stage {
-    tracks: [Option<Track>; TRACKS],
-    clock: i64,
-    records: Vec<Record>,
-}
-
-impl Stage {
-    fn track(&mut self, number: usize) -> &mut Track {
-        self.tracks[number].as_mut().expect("a track that is present")
+/// The numbers of a master call as pairs of threshold and event: 3 if a number is out of its range or an event is
+/// missing, then 10 if the thresholds aren't strictly rising or are over four.
+fn pairs_of(numbers: &[i64]) -> Result<&[[i64; 2]], u8> {
+    let (pairs, rest) = numbers.as_chunks();
+    let ranged = |&[threshold, event]: &[i64; 2]| (1..=DRIFT_MOST).contains(&threshold) && (1..=255).contains(&event);
+    if !rest.is_empty() || !pairs.iter().all(ranged) {
+        return Err(refusal::VALUE);
     }
-
-    /// A record of a track as it stands at this moment.
-    fn report(&mut self, number: usize, kind: u8, event: i64, detail: i64) {
-        let Track { position, passes, .. } = *self.track(number);
-        let (clock, track, position, passes) = (self.clock as u32, number as u8, position as i32, passes as u32);
-        self.records.push(Record { clock, track, kind, event: event as u8, detail: detail as u8, position, passes });
-    }
-
-    /// Takes a track to a mode: its record, if its action cell is not 0, then the rewinding of a stop.
-    /// Stop from STOPPED is no change: its cell is on the diagonal, 0.
-    fn enter(&mut self, number: usize, new: i64) {
-        let old = self.track(number).mode;
-        let event = self.track(number).actions[old as usize][new as usize];
-        if event != 0 {
-            self.report(number, record::MODE_CHANGE, event, old * 16 + new);
-        }
-        self.track(number).mode = new;
-        if new == STOPPED {
-            self.track(number).rewind();
-        }
-    }
-
-    /// One step of a PLAYING track: the point that it reaches.
-    fn step(&mut self, number: usize, points: &BTreeMap<(i64, i64), Point>) -> Option<Point> {
-        let track = self.track(number);
-        track.position = track.arrival();
-        track.due = 0;
-        let point = points.get(&(number as i64, track.position)).copied();
-        if let Some(point) = point {
-            self.report(number, record::POINT, point.event, point.command * 16 + point.target);
-        }
-        let track = self.track(number);
-        if track.position == track.far() {
-            track.passes += 1;
-            if track.repeat == 0 && track.passes >= track.loops {
-                // Decision 7: the point is reported and its command runs; only its wait counts for nothing.
-                self.enter(number, STOPPED);
-                return point;
-            }
-        }
-        if point.is_some_and(|point| point.wait == 1) {
-            self.enter(number, WAITING);
-        }
-        point
-    }
-
-    /// A point's command on its target, which may be the point's own track.
-    fn command(&mut self, point: Point) {
-        let target = point.target as usize;
-        let mode = self.track(target).mode;
-        match grid(mode, point.command) {
-            Some(new) => self.enter(target, new),
-            None => self.report(target, record::REFUSED_COMMAND, point.event, point.command * 16 + mode),
-        }
-    }
+    let rising = pairs.windows(2).all(|two| two[0][0] < two[1][0]);
+    if rising && pairs.len() <= THRESHOLDS { Ok(pairs) } else { Err(refusal::THRESHOLDS) }
 }
 
 #[derive(Clone, Debug, PartialEq, Eq)]
@@ -115,8 +62,14 @@ impl Model {
     pub fn unbroken(&self) -> bool {
         (0..=CLOCK_END).contains(&self.clock)
             && self.tracks.iter().flatten().all(|track| track.unbroken(self.clock))
+            && (0..TRACKS as i64).all(|t| self.track(t).is_none_or(|track| self.led(t, track)))
             && self.points.len() <= POINTS
             && self.points.iter().all(|(&(t, p), point)| self.sound(t, p, point))
+    }
+
+    /// A follower's master is another track that is present; where there are no thresholds it is the number 0.
+    fn led(&self, t: i64, track: &Track) -> bool {
+        if track.follows() { track.master != t && self.track(track.master).is_some() } else { track.master == 0 }
     }
 
     /// The ranges and rules of a point; one of a track that is absent has no bounds to be in.
@@ -165,7 +118,7 @@ impl Model {
         }
         for record in &stage.records {
             let at = self.held as usize * RECORD;
-            log[at..at + RECORD].copy_from_slice(&record.pack().expect("kinds 1 to 3"));
+            log[at..at + RECORD].copy_from_slice(&record.pack().expect("kinds 1 to 4"));
             self.held += 1;
         }
         self.tracks = stage.tracks;
@@ -184,7 +137,26 @@ impl Model {
         for point in reached.into_iter().filter(|point| point.command != 0) {
             stage.command(point);
         }
+        let follows = |number: &usize| self.tracks[*number].is_some_and(|track| track.follows());
+        (0..TRACKS).filter(follows).for_each(|number| stage.judge(number));
         self.keep(stage, log)
+    }
+
+    /// Broken 3, 1 for the track, 1 for the master, 2, 3, 10; then the track with its new pairs.
+    fn following(&self, t: i64, m: i64, numbers: &[i64]) -> Result<Track, u8> {
+        let track = *self.asked(t)?;
+        self.track(m).ok_or(refusal::ABSENT)?;
+        if track.mode != STOPPED {
+            return Err(refusal::MODE);
+        }
+        if t == m {
+            return Err(refusal::VALUE);
+        }
+        let pairs = pairs_of(numbers)?;
+        let cell = |at: usize, which: usize| pairs.get(at).map_or(0, |pair| pair[which]);
+        let (thresholds, events) = (std::array::from_fn(|at| cell(at, 0)), std::array::from_fn(|at| cell(at, 1)));
+        let master = if pairs.is_empty() { 0 } else { m };
+        Ok(Track { master, band: 0, thresholds, events, ..track })
     }
 }
 
@@ -289,6 +261,16 @@ impl Board for Model {
         match self.points.remove(&(t, p)) {
             Some(_) => Reply::Accepted,
             None => Reply::Refused(refusal::NO_POINT),
+        }
+    }
+
+    fn master(&mut self, t: i64, m: i64, numbers: &[i64]) -> Reply {
+        match self.following(t, m, numbers) {
+            Err(number) => Reply::Refused(number),
+            Ok(track) => {
+                self.tracks[t as usize] = Some(track);
+                Reply::Accepted
+            }
         }
     }
 

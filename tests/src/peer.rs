@@ -1,6 +1,7 @@
-//! The peer: the board of 01 with fixed-size arrays and sorted point keys, whose advance leaps (`run`).
+//! The peer: the board of 01, with 02's followers, in fixed-size arrays and sorted point keys, whose advance leaps (`run`).
 //! It behaves as the model does and is what speed is measured against.
 
+mod pair;
 mod run;
 mod track;
 
@@ -99,7 +100,9 @@ impl Peer {
     fn tracks_sound(&self) -> bool {
         let mut word = self.present;
         while word != 0 {
-            if !self.tracks[word.trailing_zeros() as usize].sound(self.clock) {
+            let number = word.trailing_zeros() as usize;
+            let track = &self.tracks[number];
+            if !track.sound(self.clock) || !(track.free() || self.led_sound(number)) {
                 return false;
             }
             word &= word - 1;
@@ -321,6 +324,10 @@ impl Board for Peer {
 
     fn drop_point(&mut self, t: i64, p: i64) -> Reply {
         accepted(self.remove_point(t, p))
+    }
+
+    fn master(&mut self, t: i64, m: i64, numbers: &[i64]) -> Reply {
+        accepted(self.set_master(t, m, numbers))
     }
 
     fn mode_call(&mut self, command: i64, t: i64, log: &mut [u8]) -> Reply {

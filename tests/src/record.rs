@@ -6,6 +6,7 @@ pub const RECORD: usize = 16;
 pub const POINT: u8 = 1;
 pub const MODE_CHANGE: u8 = 2;
 pub const REFUSED_COMMAND: u8 = 3;
+pub const BAND: u8 = 4;
 
 #[derive(Clone, Copy, Debug, PartialEq, Eq)]
 pub struct Record {
@@ -19,9 +20,9 @@ pub struct Record {
 }
 
 impl Record {
-    /// The record's bytes; any other kind than 1 to 3 is refused 3.
+    /// The record's bytes; any other kind than 1 to 4 is refused 3.
     pub fn pack(&self) -> Result<[u8; RECORD], u8> {
-        if !(POINT..=REFUSED_COMMAND).contains(&self.kind) {
+        if !(POINT..=BAND).contains(&self.kind) {
             return Err(refusal::VALUE);
         }
         let mut bytes = [0; RECORD];
@@ -35,9 +36,9 @@ impl Record {
         Ok(bytes)
     }
 
-    /// The record in a slice; another length than 16 or another kind than 1 to 3 is refused 3.
+    /// The record in a slice; another length than 16 or another kind than 1 to 4 is refused 3.
     pub fn unpack(bytes: &[u8]) -> Result<Record, u8> {
-        if bytes.len() != RECORD || !(POINT..=REFUSED_COMMAND).contains(&bytes[5]) {
+        if bytes.len() != RECORD || !(POINT..=BAND).contains(&bytes[5]) {
             return Err(refusal::VALUE);
         }
         let word = |at: usize| [bytes[at], bytes[at + 1], bytes[at + 2], bytes[at + 3]];

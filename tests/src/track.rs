@@ -2,6 +2,9 @@
 
 pub const BOUND: i64 = 1_000_000;
 pub const LOOPS_MOST: i64 = 65_535;
+/// Thresholds of a follower, at most, and the largest of them.
+pub const THRESHOLDS: usize = 4;
+pub const DRIFT_MOST: i64 = 1_000_000;
 
 pub const STOPPED: i64 = 0;
 pub const PLAYING: i64 = 1;
@@ -25,6 +28,14 @@ pub struct Track {
     pub due: i64,
     /// the event of a change, by old mode, then new mode
     pub actions: [[i64; 4]; 4],
+    /// the track that it follows; 0 where it follows none
+    pub master: i64,
+    /// the band held: 0 none, k the k-th threshold
+    pub band: i64,
+    /// strictly rising, then zeros
+    pub thresholds: [i64; THRESHOLDS],
+    /// beside each threshold its event, 0 beside none
+    pub events: [i64; THRESHOLDS],
 }
 
 /// The mode grid: the new mode, or none where the pair of mode and call is refused.
@@ -45,9 +56,24 @@ pub fn flag(n: i64) -> bool {
 
 impl Track {
     pub fn new(min: i64, max: i64) -> Track {
-        let (start, end, position, actions) = (min, max, min, [[0; 4]; 4]);
-        let (passes, loops, mode, direction, repeat, due) = (0, 1, STOPPED, 0, 0, 1);
-        Track { min, max, start, end, position, passes, loops, mode, direction, repeat, due, actions }
+        Track {
+            min,
+            max,
+            start: min,
+            end: max,
+            position: min,
+            passes: 0,
+            loops: 1,
+            mode: STOPPED,
+            direction: 0,
+            repeat: 0,
+            due: 1,
+            actions: [[0; 4]; 4],
+            master: 0,
+            band: 0,
+            thresholds: [0; THRESHOLDS],
+            events: [0; THRESHOLDS],
+        }
     }
 
     pub fn home(&self) -> i64 {
@@ -77,6 +103,42 @@ impl Track {
         }
     }
 
+    /// How far it is from home; home goes by the direction at this moment.
+    pub fn distance(&self) -> i64 {
+        (self.position - self.home()).abs()
+    }
+
+    /// Whether it names a master: no thresholds means no master.
+    pub fn follows(&self) -> bool {
+        self.thresholds[0] != 0
+    }
+
+    /// The highest threshold exceeded by a drift: its number, counted from 1; 0 if there is none.
+    pub fn band_at(&self, drift: i64) -> i64 {
+        let exceeded = |&at: &usize| self.thresholds[at] != 0 && drift > self.thresholds[at];
+        (0..THRESHOLDS).rev().find(exceeded).map_or(0, |at| at as i64 + 1)
+    }
+
+    /// The band that it has beside its master: none if either is STOPPED, else by the drift.
+    pub fn judged(&self, master: &Track) -> i64 {
+        if self.mode == STOPPED || master.mode == STOPPED {
+            return 0;
+        }
+        self.band_at((self.distance() - master.distance()).abs())
+    }
+
+    /// Thresholds in their range and strictly rising, then zeros; events in theirs, beside thresholds only; a band that
+    /// is one of them, and none at clock 0. That the master is another present track is the board's affair.
+    fn pairs_unbroken(&self, clock: i64) -> bool {
+        let given = self.thresholds.iter().take_while(|&&threshold| threshold != 0).count();
+        let rising = self.thresholds[..given].windows(2).all(|two| two[0] < two[1]);
+        let ranged = self.thresholds[..given].iter().all(|threshold| (1..=DRIFT_MOST).contains(threshold));
+        let events = self.events[..given].iter().all(|event| (1..=255).contains(event));
+        let unused = self.thresholds[given..].iter().chain(&self.events[given..]).all(|&number| number == 0);
+        let band = (0..=given as i64).contains(&self.band) && (clock != 0 || self.band == 0);
+        rising && ranged && events && unused && band
+    }
+
     /// The ranges and rules of a track, no more (docs/DECISIONS.md, 1): a STOPPED track off home is not broken.
     pub fn unbroken(&self, clock: i64) -> bool {
         let bounds = -BOUND <= self.min && self.min < self.max && self.max <= BOUND;
@@ -86,6 +148,7 @@ impl Track {
         let counts = (1..=LOOPS_MOST).contains(&self.loops) && (0..=clock).contains(&self.passes);
         let cells = self.actions.iter().flatten().all(|event| (0..=255).contains(event));
         let diagonal = (0..4).all(|mode| self.actions[mode][mode] == 0);
-        bounds && span && place && flags && counts && cells && diagonal && (STOPPED..=WAITING).contains(&self.mode)
+        let mode = (STOPPED..=WAITING).contains(&self.mode);
+        bounds && span && place && flags && counts && cells && diagonal && mode && self.pairs_unbroken(clock)
     }
 }

@@ -2,12 +2,22 @@
 
 use crate::bench::{Begun, Bench};
 use crate::call::Reply::{Accepted, ClockEnd, Done, LogFull, Refused};
-use crate::call::{Call, Call::*, Reply};
+use crate::call::{CALL_WIDTH, Call, Call::*, Pairs, Reply};
 
-/// Each call once, with arguments that case A's board would take, and once with a track that is absent.
+/// The codes of calls.
+pub const CODES: i64 = 21;
+
+/// Each call once, with arguments that case A's board would take (master apart, which needs a second track), and once
+/// with a track that is absent.
 pub fn each_call() -> Vec<Call> {
-    let codes = (1..=20).flat_map(|code| [[code, 0, 3, 5, 0, 0, 0], [code, 99, -9, 0, 0, 0, 0]]);
-    codes.map(|row| Call::decode(&row).expect("a call")).collect()
+    let call = |[code, a, b, c]: [i64; 4]| {
+        let mut row = [0; CALL_WIDTH];
+        row[..4].copy_from_slice(&[code, a, b, c]);
+        Call::decode(&row).expect("a call")
+    };
+    let mut calls: Vec<Call> = (1..=CODES).flat_map(|code| [call([code, 0, 3, 5]), call([code, 99, -9, 0])]).collect();
+    calls.extend([Master(0, 1, Pairs::new(&[[3, 7], [5, 9]])), Master(1, 0, Pairs::NONE)]);
+    calls
 }
 
 /// 7, 1, 6, 2, 3, 4, 5, 8: of two that hold, the one named first.

@@ -2,21 +2,23 @@
 
 use gridstep_tests::against::agree;
 use gridstep_tests::bench::{Begun, Bench};
-use gridstep_tests::call::{Board, Call::*, Reply, Reply::Refused};
+use gridstep_tests::call::{Board, CALL_WIDTH, Call::*, Reply, Reply::Refused};
 use gridstep_tests::gen::{Profile, Rng, case};
-use gridstep_tests::library::{Library, raw};
+use gridstep_tests::library::{DOOR_WIDTH, Library, raw};
 use gridstep_tests::model::Model;
-use gridstep_tests::traps::each_call;
+use gridstep_tests::refused::{BROKEN, STANDING, lent};
+use gridstep_tests::traps::{CODES, each_call};
 
-const NO_CALL: [i64; 7] = [21, 0, 0, 0, 0, 0, 0];
+/// By the door no calls: a code that is none, and master, whose pairs have no place there.
+const NO_CALLS: [[i64; DOOR_WIDTH]; 3] = [[22, 0, 0, 0, 0, 0, 0], [21, 1, 0, 0, 0, 0, 0], [21, 1, 0, 1, 3, 31, 0]];
 
 /// Every call refuses a broken board 3, lent or by the door, and changes nothing; what is no call is 9 even so.
 fn refuses_all(library: &Library, log: &[u8], what: &str) {
     for call in each_call() {
         let (mut lent, mut door, mut after) = (*library, *library, log.to_vec());
         assert_eq!(lent.apply(call, &mut after), Refused(3), "{what}: {call:?}");
-        assert_eq!(door.door(&call.encode(), &mut after), Refused(3).encode(), "{what}: {call:?}");
-        assert_eq!(door.door(&NO_CALL, &mut after), Refused(9).encode(), "{what}");
+        assert_eq!(door.by_row(&call.encode(), &mut after), Refused(3).encode(), "{what}: {call:?}");
+        NO_CALLS.iter().for_each(|row| assert_eq!(door.door(row, &mut after), Refused(9).encode(), "{what}"));
         assert!(lent == *library && door == *library && after == log, "{what}: {call:?}");
     }
 }
@@ -79,11 +81,46 @@ fn broken_boards_are_refused() {
     }
 }
 
+/// The rules of followers, each broken once; and what is at their edge.
+#[test]
+fn broken_followers_are_refused() {
+    for led in &BROKEN {
+        let Bench { board, log } = lent::<Library>(led).expect("it can be held");
+        refuses_all(&board, &log, led.what);
+    }
+    for led in &STANDING {
+        let Bench { board, log } = lent::<Library>(led).expect("it can be held");
+        stands(&board, &board.picture(), &log);
+    }
+}
+
+/// What absent tracks hold means nothing: neither as followers nor as masters of others.
+#[test]
+fn absent_followers_stand() {
+    let Bench { mut board, log } = lent::<Library>(&STANDING[0]).expect("it can be held");
+    for led in &BROKEN {
+        let [thresholds, events] = [led.thresholds, led.events].map(|row| row.map(|n| n as u32));
+        let (master, band) = (led.master as u8, led.band as u8);
+        board.board.tracks[9] = raw::Track { master, band, thresholds, events, ..board.board.tracks[9] };
+        stands(&board, &board.picture(), &log);
+    }
+}
+
+/// The door has no master: 9, on a board that would take the call too.
+#[test]
+fn no_master_by_the_door() {
+    let Bench { mut board, mut log } = lent::<Library>(&STANDING[0]).expect("it can be held");
+    let before = board;
+    NO_CALLS.iter().for_each(|row| assert_eq!(board.door(row, &mut log), Refused(9).encode()));
+    assert!(board == before);
+}
+
 fn alter_track(track: &mut raw::Track, clock: u32, rng: &mut Rng) {
     let near = track.start.wrapping_add(rng.between(-2, 9) as u32);
     let small: u8 = rng.pick(&[0, 1, 2, 3, 4, 5, 15, 16, 255]);
     let flip: u8 = rng.pick(&[1, 1, 1, 2, 128]);
-    match rng.between(0, 11) {
+    let number: u32 = rng.pick(&[0, 1, 2, 3, 4, 9, 255, 256, 1_000_000, 1_000_001, u32::MAX]);
+    match rng.between(0, 17) {
         0 => track.min = near,
         1 => track.max = rng.pick(&[near, 2_000_000, 2_000_001, u32::MAX]),
         2 => track.start = near,
@@ -95,6 +132,10 @@ fn alter_track(track: &mut raw::Track, clock: u32, rng: &mut Rng) {
         8 => track.actions[small as usize & 15] = small,
         9 => track.direction ^= flip,
         10 => track.repeat ^= flip,
+        11 => track.master = rng.between(0, 16) as u8,
+        12 => track.band = rng.between(0, 5) as u8,
+        13..=14 => track.thresholds[small as usize & 3] = number,
+        15..=16 => track.events[small as usize & 3] = number,
         _ => track.due ^= flip,
     }
 }
@@ -132,7 +173,7 @@ fn stands(library: &Library, model: &Model, log: &[u8]) {
         agree(&mut lent, &mut after, call, log);
         let (mut door, mut door_log, mut log) = (*library, log.to_vec(), log.to_vec());
         let reply = model.clone().apply(call, &mut log);
-        assert_eq!(door.door(&call.encode(), &mut door_log), reply.encode(), "{call:?}");
+        assert_eq!(door.by_row(&call.encode(), &mut door_log), reply.encode(), "{call:?}");
         assert!(door == lent && door_log == log, "{call:?}");
         let absent = |&number: &usize| after.tracks[number].is_none();
         assert!((0..16).filter(absent).all(|number| lent.board.tracks[number] == library.board.tracks[number]));
@@ -145,7 +186,8 @@ fn altered_boards_agree() {
     let (mut stood, mut broken) = (0, 0);
     for seed in 0..4000 {
         let mut rng = Rng(seed);
-        let case = case(if seed % 3 == 0 { Profile::Dense } else { Profile::Typical }, seed % 60);
+        let profile = [Profile::Dense, Profile::Followers, Profile::Typical][seed as usize % 3];
+        let case = case(profile, seed % 60);
         let (mut library, mut log) = (Library::begun(case.clock), case.log);
         for call in case.calls {
             library.apply(call, &mut log);
@@ -196,12 +238,13 @@ fn extreme_numbers_agree() {
         let (mut library, mut model) = (Library::begun(999_999_000), Model::begun(999_999_000));
         let mut logs = [vec![0; 100], vec![0; 100]];
         for nth in 0..100 {
-            let code = if rng.chance(97) { rng.between(1, 20) } else { extreme(&mut rng) };
-            let mut row = [0; 7].map(|_| extreme(&mut rng));
+            let code = if rng.chance(97) { rng.between(1, CODES) } else { extreme(&mut rng) };
+            let mut row = [0; CALL_WIDTH].map(|_| extreme(&mut rng));
             row[0] = if nth < 3 { 1 } else { code };
             row[1] = if rng.chance(70) { rng.between(0, 3) } else { row[1] };
+            row[2] = if code == CODES && rng.chance(70) { rng.between(0, 3) } else { row[2] };
             let reply: Reply = model.apply_encoded(&row, &mut logs[0]);
-            assert_eq!(library.door(&row, &mut logs[1]), reply.encode(), "seed {seed}: {row:?}");
+            assert_eq!(library.by_row(&row, &mut logs[1]), reply.encode(), "seed {seed}: {row:?}");
             assert!(library.same(&model) && logs[0] == logs[1], "seed {seed}: {row:?}");
             refused += u32::from(matches!(reply, Refused(_)));
         }

@@ -3,12 +3,15 @@
 
 use gridstep_tests::against;
 use gridstep_tests::bench::Begun;
-use gridstep_tests::call::{Board, Call, Call::Advance, Reply};
+use gridstep_tests::call::{Board, CALL_WIDTH, Call, Call::Advance, REPLY_WIDTH, Reply};
 use gridstep_tests::cards;
+use gridstep_tests::followers;
 use gridstep_tests::gen::{Case, PROFILES, Profile, Rng, case, recut};
 use gridstep_tests::library::Library;
 use gridstep_tests::lists::{Tally, merged, observed, written};
 use gridstep_tests::model::Model;
+use gridstep_tests::record::{BAND, REFUSED_COMMAND};
+use gridstep_tests::refused;
 use gridstep_tests::traps;
 
 macro_rules! on_library {
@@ -19,15 +22,29 @@ on_library! {
     cards: a b c d e f g h i j k l;
     traps: order traps leaps_the_clock;
     against: other_logs long_leaps;
+    followers: exceeded idle_board follower_moves mode_calls_leave_it behind_commands commands_leave_it turning held_back
+        rings setting in_step unequal_spans sixty_four;
+    refused: in_order of_any_length by_rows lent_boards;
 }
 
 /// Lists of this file begin at this seed, so that they are no other file's.
 const SEED: u64 = 1_000_000;
 const LISTS: u64 = 20_000;
-/// Of a hundred lists, by profile; long lists are fewer.
-const SHARES: [u64; 7] = [19, 6, 19, 18, 19, 18, 1];
-/// Codes that are no call's.
-const NO_CALLS: [i64; 8] = [0, 21, -1, -11, i64::MIN, i64::MAX, 1 << 32 | 16, 256 + 15];
+/// Of a hundred lists, by profile; long lists are fewer. Lists of followers come on top, as many as all the others.
+const SHARES: [u64; 8] = [19, 6, 19, 18, 19, 18, 100, 1];
+/// Rows that are no call's begin with these: other codes, and a master call with a negative number of pairs.
+const NO_CALLS: [[i64; 4]; 10] = [
+    [0, 0, 1, 1],
+    [22, 0, 1, 1],
+    [-1, 0, 1, 1],
+    [-11, 0, 1, 1],
+    [i64::MIN, 0, 1, 1],
+    [i64::MAX, 0, 1, 1],
+    [1 << 32 | 16, 0, 1, 1],
+    [256 + 15, 0, 1, 1],
+    [21, 0, 1, -1],
+    [21, 0, 1, i64::MIN],
+];
 
 /// Lists of all profiles.
 fn total() -> u64 {
@@ -39,9 +56,9 @@ fn share(profile: Profile) -> u64 {
 }
 
 /// A call's row, with noise in the numbers that it has no use for.
-fn noisy(call: Call, rng: &mut Rng) -> [i64; 7] {
+fn noisy(call: Call, rng: &mut Rng) -> [i64; CALL_WIDTH] {
     let mut row = call.encode();
-    for at in 1..7 {
+    for at in 1..CALL_WIDTH {
         let mut other = row;
         other[at] = rng.bits() as i64;
         row = if Call::decode(&other) == Some(call) { other } else { row };
@@ -50,11 +67,13 @@ fn noisy(call: Call, rng: &mut Rng) -> [i64; 7] {
 }
 
 /// The rows of a list; here and there one before them that is no call.
-fn rows_of(calls: &[Call], rng: &mut Rng) -> Vec<[i64; 7]> {
+fn rows_of(calls: &[Call], rng: &mut Rng) -> Vec<[i64; CALL_WIDTH]> {
     let mut rows = Vec::new();
     for &call in calls {
         if rng.chance(2) {
-            rows.push([rng.pick(&NO_CALLS), 0, 1, 1, 1, 1, 1]);
+            let mut row = [1; CALL_WIDTH];
+            row[..4].copy_from_slice(&rng.pick(&NO_CALLS));
+            rows.push(row);
         }
         rows.push(noisy(call, rng));
     }
@@ -70,7 +89,7 @@ struct Told {
 }
 
 /// Model, lent calls and door on one list: after each call the answer, the whole board and every log byte.
-fn side_by_side(name: &str, case: &Case, rows: &[[i64; 7]]) -> Told {
+fn side_by_side(name: &str, case: &Case, rows: &[[i64; CALL_WIDTH]]) -> Told {
     let mut board = Model::begun(case.clock);
     let (mut lent, mut door) = (Library::begun(case.clock), Library::begun(case.clock));
     let [mut log, mut lent_log, mut door_log] = [case.log.clone(), case.log.clone(), case.log.clone()];
@@ -80,7 +99,7 @@ fn side_by_side(name: &str, case: &Case, rows: &[[i64; 7]]) -> Told {
         let before = board.held as usize;
         let reply = board.apply_encoded(row, &mut log);
         assert_eq!(lent.apply_encoded(row, &mut lent_log).encode(), reply.encode(), "lent: {}", place());
-        assert_eq!(door.door(row, &mut door_log), reply.encode(), "door: {}", place());
+        assert_eq!(door.by_row(row, &mut door_log), reply.encode(), "door: {}", place());
         assert!(lent.same(&board), "lent: {}: {:?}\n{board:?}", place(), lent.picture());
         assert!(door == lent, "door: {}: {:?}\n{board:?}", place(), door.picture());
         assert!(lent_log == log && door_log == log, "log: {}", place());
@@ -91,7 +110,7 @@ fn side_by_side(name: &str, case: &Case, rows: &[[i64; 7]]) -> Told {
 }
 
 /// The encoded list: all replies, the end board and every log byte. Idle ticks bring a board to its clock.
-fn encoded(name: &str, case: &Case, rows: &[[i64; 7]], told: &Told) {
+fn encoded(name: &str, case: &Case, rows: &[[i64; CALL_WIDTH]], told: &Told) {
     let idle = (case.clock > 0).then(|| (Advance(case.clock).encode(), Reply::Done(case.clock as u32)));
     let calls: Vec<i64> = idle.iter().map(|(row, _)| row).chain(rows).flatten().copied().collect();
     let expected: Vec<u64> =
@@ -145,7 +164,10 @@ fn lists_agree(profile: Profile) {
     }
     println!("{profile:?}: {compared:?}");
     assert!(compared.cut_anew >= compared.lists / 3);
-    compared.tally.assert_whole(profile == Profile::Full);
+    let mut refusals = vec![1, 2, 3, 4, 6, 8, 9];
+    refusals.extend((profile == Profile::Full).then_some(5));
+    refusals.extend(profile.has_masters().then_some(10));
+    compared.tally.assert_whole(if profile.has_masters() { BAND } else { REFUSED_COMMAND }, &refusals);
 }
 
 macro_rules! profiles {
@@ -159,6 +181,7 @@ profiles! {
     lists_small_log: SmallLog;
     lists_extremes: Extremes;
     lists_queries: Queries;
+    lists_followers: Followers;
     lists_full: Full;
 }
 
@@ -167,7 +190,8 @@ profiles! {
 fn every_small_log() {
     let mut compared = Compared::default();
     for length in 0..=130 {
-        for (nth, profile) in (0..12).zip([Profile::Typical, Profile::Dense, Profile::Edges].into_iter().cycle()) {
+        let profiles = [Profile::Typical, Profile::Dense, Profile::Edges, Profile::Followers];
+        for (nth, profile) in (0..12).zip(profiles.into_iter().cycle()) {
             let seed = 2 * SEED + length * 12 + nth;
             let Case { clock, mut log, mut calls } = case(profile, seed);
             log.truncate(length as usize);
@@ -178,12 +202,25 @@ fn every_small_log() {
     println!("small logs: {compared:?}");
 }
 
+/// Master rows as the library reads them: a negative number of pairs, more than a row has, pairs past the number.
+#[test]
+fn master_rows() {
+    let begun: Vec<Call> = refused::set_up().into_iter().chain([Advance(1)]).collect();
+    let rows = refused::rows();
+    let calls: Vec<[i64; CALL_WIDTH]> = begun.iter().map(Call::encode).chain(rows.iter().map(|row| row.0)).collect();
+    let mut replies = vec![[u64::MAX; REPLY_WIDTH]; calls.len()];
+    Library::run(calls.as_flattened(), &mut [0; 64], replies.as_flattened_mut());
+    for (told, (row, reply)) in replies[begun.len()..].iter().zip(&rows) {
+        assert_eq!(*told, reply.encode(), "{row:?}");
+    }
+}
+
 /// Calls and replies that are not whole rows: as many rows as both have whole, and nothing past them is written.
 fn ragged(name: &str, case: &Case, rng: &mut Rng) -> usize {
     let calls = rows_of(&case.calls, rng);
-    let length = rng.between(0, 7 * calls.len() as i64) as usize;
+    let length = rng.between(0, (CALL_WIDTH * calls.len()) as i64) as usize;
     let room = rng.between(0, 4 * length as i64 + 60) as usize;
-    let rows = (length / 7).min(room / 28);
+    let rows = (length / CALL_WIDTH).min(room / REPLY_WIDTH);
     let told = side_by_side(name, case, &calls[..rows]);
     let (mut log, mut replies, mut expected) = (case.log.clone(), vec![u64::MAX; room], vec![u64::MAX; room]);
     let (places, _) = expected.as_chunks_mut();
@@ -197,7 +234,7 @@ fn ragged(name: &str, case: &Case, rng: &mut Rng) -> usize {
 #[test]
 fn ragged_lists() {
     let (mut lists, mut calls) = (0, 0);
-    for (seed, profile) in (3 * SEED..3 * SEED + total() / 10).zip(PROFILES[..6].iter().cycle()) {
+    for (seed, profile) in (3 * SEED..3 * SEED + total() / 10).zip(PROFILES[..7].iter().cycle()) {
         let case = case(*profile, seed);
         if case.clock == 0 {
             calls += ragged(&format!("{profile:?} list {seed}"), &case, &mut Rng(seed));

@@ -3,7 +3,7 @@
 use gridstep_tests::against::{self, agree};
 use gridstep_tests::bench::{Begun, Bench};
 use gridstep_tests::call::Reply::Refused;
-use gridstep_tests::call::{Board, Call, Call::*};
+use gridstep_tests::call::{Board, CALL_WIDTH, Call, Call::*};
 use gridstep_tests::gen::{PROFILES, Profile, Rng, case};
 use gridstep_tests::model::{self, Model};
 use gridstep_tests::peer::Peer;
@@ -11,12 +11,16 @@ use gridstep_tests::record::Record;
 use gridstep_tests::track;
 use gridstep_tests::traps::{self, each_call};
 
+/// A code that is no call's, and a master call with a negative number of pairs.
+const NO_CALLS: [[i64; CALL_WIDTH]; 2] =
+    [[22, 0, 0, 0, 0, 0, 0, 0, 0, 0, 0, 0, 0, 0], [21, 1, 0, -1, 3, 31, 0, 0, 0, 0, 0, 0, 0, 0]];
+
 /// Every call refuses a broken board 3 and changes nothing; what is no call is 9 even so.
 fn refuses_all(board: &Model, what: &str) {
     for call in each_call() {
         let (mut after, mut log) = (board.clone(), vec![7; 40]);
         assert_eq!(after.apply(call, &mut log), Refused(3), "{what}: {call:?}");
-        assert_eq!(after.apply_encoded(&[21, 0, 0, 0, 0, 0, 0], &mut log), Refused(9));
+        NO_CALLS.iter().for_each(|row| assert_eq!(after.apply_encoded(row, &mut log), Refused(9)));
         assert!(after == *board && log == vec![7; 40]);
     }
 }
@@ -91,7 +95,7 @@ fn mutate(peer: &mut Peer, rng: &mut Rng) {
     let slot = rng.between(0, peer.count.max(1) as i64 - 1) as usize;
     let near = peer.tracks[track].start.wrapping_add(rng.between(-2, 9) as u32);
     let small = rng.pick(&[0, 1, 2, 3, 4, 5, 15, 16, 255]);
-    match rng.between(0, 16) {
+    match rng.between(0, 20) {
         0 => peer.tracks[track].min = near,
         1 => peer.tracks[track].max = rng.pick(&[near, 2_000_000, 2_000_001]),
         2 => peer.tracks[track].start = near,
@@ -108,6 +112,10 @@ fn mutate(peer: &mut Peer, rng: &mut Rng) {
         13 => peer.infos[slot].target = small,
         14 => peer.keys[slot] = peer.keys[slot].wrapping_add(rng.pick(&[1, u32::MAX, 1 << 20, 1 << 21, 1 << 25])),
         15 => peer.tracks[track].due ^= true,
+        16 => peer.tracks[track].master = rng.between(0, 16) as u8,
+        17 => peer.tracks[track].band = rng.between(0, 5) as u8,
+        18 => peer.tracks[track].thresholds[small as usize & 3] = rng.pick(&[0, 1, 3, 4, 9, 1_000_000, 1_000_001]),
+        19 => peer.tracks[track].events[small as usize & 3] = rng.pick(&[0, 1, 255]),
         _ => peer.held = rng.between(0, 300) as u64,
     }
 }
@@ -118,7 +126,8 @@ fn altered_boards_agree() {
     let (mut whole, mut broken) = (0, 0);
     for seed in 0..3000 {
         let mut rng = Rng(seed);
-        let case = case(if seed % 3 == 0 { Profile::Dense } else { Profile::Typical }, seed % 60);
+        let profile = [Profile::Dense, Profile::Followers, Profile::Typical][seed as usize % 3];
+        let case = case(profile, seed % 60);
         let mut peer = Peer::begun(case.clock);
         let mut log = case.log.clone();
         for call in case.calls {
@@ -177,10 +186,10 @@ fn records_pack_and_unpack() {
         bytes[5] %= 6;
         match Record::unpack(&bytes) {
             Ok(record) => assert_eq!(record.pack(), Ok(bytes)),
-            Err(number) => assert!(number == 3 && !(1..=3).contains(&bytes[5])),
+            Err(number) => assert!(number == 3 && !(1..=4).contains(&bytes[5])),
         }
     }
-    let record = Record { clock: 1, track: 0, kind: 4, event: 0, detail: 0, position: -1, passes: 0 };
+    let record = Record { clock: 1, track: 0, kind: 5, event: 0, detail: 0, position: -1, passes: 0 };
     assert_eq!(record.pack(), Err(3));
     assert!([0, 15, 17].iter().all(|&length| Record::unpack(&vec![1; length]) == Err(3)));
 }
@@ -191,7 +200,9 @@ fn calls_encode() {
         let calls = PROFILES.iter().flat_map(|&profile| case(profile, seed).calls);
         calls.for_each(|call| assert_eq!(Call::decode(&call.encode()), Some(call)));
     }
-    assert!([0, 21, -1, i64::MIN, i64::MAX, 1 << 32 | 16].iter().all(|&code| Call::decode(&[code; 7]).is_none()));
+    assert!(
+        [0, 22, -1, i64::MIN, i64::MAX, 1 << 32 | 16].iter().all(|&code| Call::decode(&[code; CALL_WIDTH]).is_none())
+    );
 }
 
 #[test]

@@ -86,6 +86,21 @@ fn counted(t: Track, code: u32, n: u32, cell: usize) -> Track {
     c
 }
 
+// Codes 53 to 56: master, band, a threshold, an event.
+fn led(t: Track, code: u32, n: u32, place: usize) -> Track {
+    if Track::THRESHOLDS <= place {
+        return t;
+    }
+    let mut c = t;
+    match code {
+        53 => c.master = (n % 256) as u8,
+        54 => c.band = (n % 256) as u8,
+        55 => c.thresholds[place] = n,
+        _ => c.events[place] = n,
+    }
+    c
+}
+
 // Codes from 36 on: a field of a track.
 fn with_field(b: Board, code: u32, at: usize, n: u32, cell: usize) -> Board {
     if Board::TRACKS <= at {
@@ -96,10 +111,15 @@ fn with_field(b: Board, code: u32, at: usize, n: u32, cell: usize) -> Board {
     if code <= 40 {
         let p = placed(t, code, n);
         c.tracks[at] = p;
-    } else {
+        return c;
+    }
+    if code <= 47 {
         let q = counted(t, code, n, cell);
         c.tracks[at] = q;
+        return c;
     }
+    let r = led(t, code, n, cell);
+    c.tracks[at] = r;
     c
 }
 

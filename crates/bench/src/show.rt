@@ -5,6 +5,7 @@ use board::log::Unpacked;
 use board::log::pack;
 use board::log::unpack;
 use board::row::REPLY_WIDTH;
+use board::row::TRACK_WIDTH;
 use libc::STDOUT_FILENO;
 use track::Coordinate;
 use track::Passes;
@@ -46,7 +47,7 @@ fn width(kind: u64) -> usize
     match kind {
         0 => 1,
         5 => 3,
-        6 => REPLY_WIDTH,
+        6 => TRACK_WIDTH,
         7 => 7,
         _ => 2,
     }

@@ -1,3 +1,4 @@
 pub mod Machine
 pub mod Refusals
 pub mod Leaving
+pub mod Enough

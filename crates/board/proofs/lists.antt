@@ -8,4 +8,6 @@ pub mod Executing
 pub mod Cards
 pub mod Examples
 pub mod Rejected
+pub mod FollowerCards
+pub mod RejectedFollowers
 pub mod Answers

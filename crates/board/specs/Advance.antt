@@ -1,16 +1,20 @@
 -- How an advance ends, and the turns that the tick loop can still take.
 use Prim.Native.Nat.{ℕ, _+_, _-_, _*_, min}
-use mathlib.Core.Bool.{cond, Bool}
+use mathlib.Core.Bool.{cond, Bool, false, _||_}
 use mathlib.Core.Path.{_≡_}
-use mathlib.Core.List.{List}
+use mathlib.Core.List.{List, [], _∷_}
 use lib.IntN.{ℤ}
 use lib.ListN.{length}
+use Rattle.track.specs.declared.Track.{Track}
 use Rattle.track.specs.Rule.{clockEnd}
 use Rattle.board.specs.declared.Board.{Board}
 use Rattle.board.specs.declared.advance.Left.{Left}
-use Rattle.board.specs.Tick.{members, playingWord}
-use Rattle.board.specs.Cut.{Ran, ticks}
-use Rattle.board.specs.Replay.{World, w-halt, w-step}
+use Rattle.board.specs.Board.{trackAt}
+use Rattle.board.specs.Tick.{members, playingWord, followWord, bandCount}
+use Rattle.board.specs.Steady.{turnsBack}
+use Rattle.board.specs.Quiet.{masterOf}
+use Rattle.board.specs.Cut.{Ran, ticks, passed}
+use Rattle.board.specs.Replay.{World, w-halt, w-step, total}
 use Rattle.board.specs.Call.{Stop, stoppedBy, advancedSaid, gridstep, does, world, Gives}
 use Rattle.board.specs.declared.call.Call.the-variants as call
 
@@ -33,8 +37,8 @@ pub record Ended (b : Board) (t : Ran Stop (World Board)) (r : Left) (log : List
 abbrev pub TakesTicks : Board → ℕ → List ℕ → Left → List ℕ → Type 0
 TakesTicks b count log r log′ = Ended b (ticks (w-halt gridstep) (w-step gridstep) count (world b log)) r log′
 
--- ---- How many turns the tick loop can still take (01, "Advance": empty stretches are leapt): told by what is still to be written, not by
--- the ticks still to be taken.
+-- ---- How many turns the tick loop can still take (01, "Advance": empty stretches are leapt): told by what is still to be written and,
+-- with followers, by the ticks in which a track of a pair leaves its line, not by all ticks still to be taken.
 
 -- the number of tracks that play
 abbrev pub playingCount : Board → ℕ
@@ -44,8 +48,23 @@ playingCount b = length (members (playingWord (b .present) (b .tracks)))
 abbrev pub recordsLeft : ℕ → World Board → ℕ
 recordsLeft left u = ticks (w-halt gridstep) (w-step gridstep) left u .end .board .held - u .board .held
 
+-- in the next tick a track of one of these followers' pairs leaves its line
+unfoldable pub oneLeaves : List Track → List ℕ → Bool
+oneLeaves ts [] = false
+oneLeaves ts (i ∷ is) = turnsBack (trackAt ts i) || (turnsBack (masterOf ts i) || oneLeaves ts is)
+
+-- 1 if it does so on a board
+unfoldable pub leaving : Board → ℕ
+leaving b = cond (oneLeaves (b .tracks) (members (followWord (b .present) (b .tracks)))) 1 0
+
+-- in how many of so many ticks, as far as they are taken, it does
+unfoldable pub leavings : ℕ → World Board → ℕ
+leavings left u = total (λ w. leaving (w .board)) (passed (w-halt gridstep) (w-step gridstep) left u)
+
 -- The measure of the loop `'ticks` of `run` (src/advance.rt), with `left` ticks to do on u, where `look` says whether the next turn
--- looks for a leap: three for each record still to be written, one for each track that plays, one if the next turn doesn't look, one
--- if a tick can still be taken.
+-- looks for a leap: three for each record still to be written, one for each track that plays, one for each band held, one for each tick in
+-- which a track of a follower's pair leaves its line, one if the next turn doesn't look, one if a tick can still be taken.
 abbrev pub turnsLeft : Bool → ℕ → World Board → ℕ
-turnsLeft look left u = 3 * recordsLeft left u + playingCount (u .board) + cond look 0 1 + min 1 (min left (clockEnd - u .board .clock .0))
+turnsLeft look left u =
+    3 * recordsLeft left u + playingCount (u .board) + bandCount (u .board .present) (u .board .tracks) + leavings left u + cond look 0 1
+    + min 1 (min left (clockEnd - u .board .clock .0))

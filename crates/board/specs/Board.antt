@@ -1,4 +1,4 @@
--- A board's state, and the ranges and rules that 01 gives for its tracks, points and clock.
+-- A board's state, and the ranges and rules that 01 and 02 give for its tracks, points and clock.
 use Prim.Native.Nat.{ℕ, suc, _/_, _%_, _^_, _≤_, _<_}
 use mathlib.Core.Path.{_≡_}
 use mathlib.Core.List.{List, [], _∷_}
@@ -7,7 +7,8 @@ use lib.ListN.{length, getD, replicate, take}
 use lib.Dec.{leb, ltb, eqb}
 use Rattle.track.specs.declared.Track.{Track}
 use Rattle.track.specs.declared.Ticks.{Ticks}
-use Rattle.track.specs.Rule.{clockEnd, Sound, soundTest, newTrack}
+use Rattle.track.specs.Rule.{clockEnd, Sound, soundTest, newTrack, eventMost}
+use Rattle.track.specs.Follow.{follows, Follower, followerTest}
 use Rattle.board.specs.declared.Board.{Board}
 use Rattle.board.specs.declared.points.Points.{Points}
 use Rattle.board.specs.declared.points.Point.{Point}
@@ -16,10 +17,6 @@ use lib.IntN.{ℤ}
 use Rattle.track.specs.declared.number.Natural.{Natural}
 use Rattle.track.specs.declared.number.Natural.the-variants as natural
 use Rattle.track.specs.Number.{naturalOf, onNatural}
-
--- an event 1 to 255
-abbrev pub eventMost : ℕ
-eventMost = 255
 
 -- what is read where there is no track
 abbrev pub noTrack : Track
@@ -37,6 +34,10 @@ noTrack =
       repeat = 0;
       due = 0;
       actions = [];
+      master = 0;
+      band = 0;
+      thresholds = [];
+      events = [];
     }
 
 abbrev pub trackAt : List Track → ℕ → Track
@@ -45,6 +46,10 @@ trackAt ts i = getD ts i noTrack
 -- tracks 0 to 15, each present or not: bit i of the word says it of track i
 unfoldable pub isPresent : ℕ → ℕ → Bool
 isPresent word i = ltb i trackCount && eqb (word / 2 ^ i % 2) 1
+
+-- "an absent master", "a self-master": the master is another track that is present; the number 0 where there are no thresholds
+unfoldable pub masterTest : ℕ → ℕ → Track → Bool
+masterTest present i t = cond (follows t) (isPresent present (t .master) && not (eqb (t .master) i)) (eqb (t .master) 0)
 
 -- A point has a position from min to max of its track, an event 1 to 255, a wait flag 0 or 1, a command 0 to 4 and a target
 -- 0 to 15. With a command the target must exist; with command 0 it is the number 0, and track 0 need not exist.
@@ -75,6 +80,8 @@ pub record Unbroken (b : Board) : Type 0 where
   pub shape : Shaped b
   pub clock : b .clock .0 ≤ clockEnd
   pub tracks : (i : ℕ) → isPresent (b .present) i ≡ true → Sound (trackAt (b .tracks) i) (b .clock)
+  pub followers : (i : ℕ) → isPresent (b .present) i ≡ true → Follower (trackAt (b .tracks) i) (b .clock)
+  pub masters : (i : ℕ) → isPresent (b .present) i ≡ true → masterTest (b .present) i (trackAt (b .tracks) i) ≡ true
   pub count : b .points .count ≤ pointMost
   pub points : (j : ℕ) → j < b .points .count → PointRule (b .present) (b .tracks) (pointAt (b .points) j)
   -- the keys ascend strictly: so the table keeps "at most one for a track and position", which is all that 01 says
@@ -82,10 +89,15 @@ pub record Unbroken (b : Board) : Type 0 where
 
 -- ---- the same as a test
 
--- the tracks that the word says are present, the first being its lowest bit
-unfoldable pub tracksTest : ℕ → List Track → Ticks → Bool
-tracksTest word [] clock = true
-tracksTest word (t ∷ ts) clock = (not (eqb (word % 2) 1) || soundTest t clock) && tracksTest (word / 2) ts clock
+-- a present track, number i
+unfoldable pub trackTest : ℕ → ℕ → Track → Ticks → Bool
+trackTest present i t clock = soundTest t clock && (followerTest t clock && masterTest present i t)
+
+-- the tracks that the word says are present, the first being its lowest bit and having the number i
+unfoldable pub tracksTest : ℕ → ℕ → ℕ → List Track → Ticks → Bool
+tracksTest present word i [] clock = true
+tracksTest present word i (t ∷ ts) clock =
+    (not (eqb (word % 2) 1) || trackTest present i t clock) && tracksTest present (word / 2) (suc i) ts clock
 
 unfoldable pub placeTest : ℕ → Track → Point → Bool
 placeTest present owner p =
@@ -118,7 +130,7 @@ unfoldable pub unbrokenParts : ℕ → List Track → Ticks → List ℕ → Lis
 unbrokenParts present ts clock keys infos n =
     leb (clock .0) clockEnd
     && (leb n pointMost
-    && (tracksTest present ts clock
+    && (tracksTest present present 0 ts clock
     && (pointsTest present ts 0 (take n keys) (take n infos) && shapeTest present ts keys infos)))
 
 abbrev pub unbrokenTest : Board → Bool

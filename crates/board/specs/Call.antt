@@ -2,7 +2,7 @@
 use Prim.Native.Nat.{ℕ, _+_, _<_}
 use mathlib.Core.Bool.{Bool, true, false, cond}
 use mathlib.Core.Path.{_≡_}
-use mathlib.Core.List.{List, []}
+use mathlib.Core.List.{List, [], _∷_}
 use mathlib.Core.Option.{Option, none, some}
 use lib.ListN.{length}
 use lib.IntN.{ℤ, pos}
@@ -29,10 +29,12 @@ use Rattle.board.specs.declared.call.Advanced.{Advanced}
 use Rattle.board.specs.declared.call.Advanced.the-variants as advanced
 use Rattle.board.specs.declared.call.Call.{Call}
 use Rattle.board.specs.declared.call.Call.the-variants as call
+use Rattle.board.specs.declared.call.Pairs.{Pairs}
+use Rattle.board.specs.declared.call.Pairs.the-variants as pairs
 use Rattle.board.specs.Log.{recordWidth, recordBytes, capacity}
 use Rattle.board.specs.Points.{trackCount}
 use Rattle.board.specs.Board.{unbrokenTest}
-use Rattle.board.specs.Setup.{boardWith, setUp, addTrack, setPoint, dropPoint, clearBoard}
+use Rattle.board.specs.Setup.{boardWith, setUp, addTrack, setPoint, dropPoint, setMaster, clearBoard}
 use Rattle.board.specs.Query.{clockOf, trackOf, pointIn, countIn}
 use Rattle.board.specs.Tick.{tickOf}
 use Rattle.board.specs.Mode.{ModeResult, modeResult, outcomeOf}
@@ -42,7 +44,7 @@ use Rattle.board.specs.Replay.{Made, Rules, World, wrote, perform}
 use Rattle.board.specs.declared.call.Told.{Told}
 use Rattle.board.specs.declared.call.Told.the-variants as told
 
--- Every field of a track, as 01 has it: positions signed, and the sixteen actions.
+-- Every field of a track, as 01 and 02 have it: positions signed, the sixteen actions, the four thresholds and their events.
 pub record TrackValues : Type 0 where
   pub min : ℤ
   pub max : ℤ
@@ -56,6 +58,10 @@ pub record TrackValues : Type 0 where
   pub repeat : ℕ
   pub due : ℕ
   pub actions : List ℕ
+  pub master : ℕ
+  pub band : ℕ
+  pub thresholds : List ℕ
+  pub events : List ℕ
 
 abbrev pub trackValues : Track → TrackValues
 trackValues t =
@@ -72,6 +78,10 @@ trackValues t =
       repeat = t .repeat;
       due = t .due;
       actions = t .actions;
+      master = t .master;
+      band = t .band;
+      thresholds = t .thresholds;
+      events = t .events;
     }
 
 -- A point, as 01 has it: its position signed, its wait flag 0 or 1.
@@ -212,6 +222,16 @@ madeBy m = record { board = m .board; records = m .records }
 abbrev pub untouched : Board → Made Board Record
 untouched b = record { board = b; records = [] }
 
+-- the numbers of a master call's pairs: "strictly rising thresholds, 1 to 1,000,000, each with an event 1 to 255"
+abbrev pub pairNumbers : Pairs → List ℤ
+pairNumbers pairs.Nothing = []
+pairNumbers (pairs.One x₁ e₁) = x₁ ∷ e₁ ∷ []
+pairNumbers (pairs.Two x₁ e₁ x₂ e₂) = x₁ ∷ e₁ ∷ x₂ ∷ e₂ ∷ []
+pairNumbers (pairs.Three x₁ e₁ x₂ e₂ x₃ e₃) = x₁ ∷ e₁ ∷ x₂ ∷ e₂ ∷ x₃ ∷ e₃ ∷ []
+pairNumbers (pairs.Four x₁ e₁ x₂ e₂ x₃ e₃ x₄ e₄) = x₁ ∷ e₁ ∷ x₂ ∷ e₂ ∷ x₃ ∷ e₃ ∷ x₄ ∷ e₄ ∷ []
+pairNumbers (pairs.More x₁ e₁ x₂ e₂ x₃ e₃ x₄ e₄ x₅ e₅) =
+    x₁ ∷ e₁ ∷ x₂ ∷ e₂ ∷ x₃ ∷ e₃ ∷ x₄ ∷ e₄ ∷ x₅ ∷ e₅ ∷ []
+
 unfoldable pub saysOf : Call → ℕ → Board → Reply
 saysOf (call.AddTrack i lo hi) n b = answered (addTrack b i lo hi .answer)
 saysOf (call.SetUp i c) n b = answered (setUp b i c .answer)
@@ -227,6 +247,7 @@ saysOf call.Clock n b = clockSaid (clockOf b)
 saysOf (call.Track i) n b = trackSaid (trackOf b i .answer) (trackOf b i .track)
 saysOf (call.Point i p) n b = pointSaid (pointIn b i p)
 saysOf (call.PointCount i from to) n b = countSaid (countIn b i from to)
+saysOf (call.Master i m ps) n b = answered (setMaster b i m (pairNumbers ps) .answer)
 
 unfoldable pub makesOf : Call → ℕ → Board → Made Board Record
 makesOf (call.AddTrack i lo hi) n b = madeOf (addTrack b i lo hi)
@@ -243,6 +264,7 @@ makesOf call.Clock n b = untouched b
 makesOf (call.Track i) n b = untouched b
 makesOf (call.Point i p) n b = untouched b
 makesOf (call.PointCount i from to) n b = untouched b
+makesOf (call.Master i m ps) n b = madeOf (setMaster b i m (pairNumbers ps))
 
 abbrev pub isAccepted : Answer → Bool
 isAccepted answer.Accepted = true
@@ -264,6 +286,7 @@ clearsOf call.Clock b = false
 clearsOf (call.Track i) b = false
 clearsOf (call.Point i p) b = false
 clearsOf (call.PointCount i from to) b = false
+clearsOf (call.Master i m ps) b = false
 
 abbrev pub gridstep : Rules
 gridstep =
@@ -312,6 +335,7 @@ runCount call.Clock = none
 runCount (call.Track i) = none
 runCount (call.Point i p) = none
 runCount (call.PointCount i from to) = none
+runCount (call.Master i m ps) = none
 
 abbrev pub advanceBy : ℕ → Call
 advanceBy n = call.Advance (pos n)
@@ -343,6 +367,12 @@ modeDoes k track w =
 abbrev pub ChangesMode : ℕ → ℤ → Board → List ℕ → ModeChange → List ℕ → Type 0
 ChangesMode k track b log r log′ =
     Gives (modeDoes k track (world b log)) (answered (r .answer)) (outcomeOf b r .board) log′ × (r .at < trackCount)
+
+-- what a master call does with any list of numbers: it writes no record
+unfoldable pub masterDoes : ℤ → ℤ → List ℤ → World Board → Did Reply (World Board)
+masterDoes track master zs w =
+    let o = setMaster (w .board) track master zs in
+    record { answer = answered (o .answer); left = world (o .board) (w .log) }
 
 -- ---- What a call tells, as the code has it, and 01's reply.
 

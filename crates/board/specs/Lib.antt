@@ -7,6 +7,7 @@ pub mod Query
 pub mod Mode
 pub mod Tick
 pub mod Stay
+pub mod Steady
 pub mod Quiet
 pub mod Advance
 pub mod Apply

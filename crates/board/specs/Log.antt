@@ -35,9 +35,9 @@ recordWidth = 16
 abbrev pub detailUnit : ℕ
 detailUnit = 16
 
--- kinds 1 to 3: point, mode change, refused command
+-- kinds 1 to 4: point, mode change, refused command, and "Packing and unpacking accept kind 4", a band entered
 unfoldable pub kindTest : ℕ → Bool
-kindTest k = leb 1 k && leb k 3
+kindTest k = leb 1 k && leb k 4
 
 -- a number as a word of 4 bytes in two's complement; and back, where a word from 2,147,483,648 on is negative
 unfoldable pub twosOf : ℤ → ℕ

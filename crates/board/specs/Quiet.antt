@@ -1,18 +1,21 @@
--- Quiet ticks (01, "Advance"): no step of a playing track reaches a point of its own or stops it, so that they are leapt.
+-- Quiet ticks (01, "Advance"; 02, 2.1): no step of a playing track reaches a point of its own or stops it, and no follower's band
+-- changes, so that they are leapt.
 use Prim.Native.Nat.{ℕ, zero, suc, _/_, _%_, _≤_, _<_}
 use mathlib.Core.Path.{_≡_}
 use mathlib.Core.Logic.{_⊎_}
 use mathlib.Core.List.{List, [], _∷_}
 use mathlib.Core.Bool.{Bool, true, false, _||_}
-use lib.ListN.{set}
+use lib.ListN.{length, set}
 use Rattle.track.specs.declared.Track.{Track}
 use Rattle.track.specs.Rule.{Valid, clockEnd}
 use Rattle.track.specs.Walk.{arrival, stops}
 use Rattle.track.specs.Leap.{leap}
-use Rattle.board.specs.Points.{key, hasKey, infoAt}
+use Rattle.track.specs.Follow.{thresholdsOf, pairsTest}
+use Rattle.board.specs.Points.{key, hasKey, infoAt, trackCount}
 use Rattle.board.specs.Replay.{Each}
 use Rattle.board.specs.Board.{trackAt}
 use Rattle.board.specs.Tick.{playBit}
+use Rattle.board.specs.Steady.{SteadyFor, Unsteady}
 
 -- one number of a list at least
 unfoldable pub Some : (ℕ → Type 0) → List ℕ → Type 0
@@ -47,11 +50,26 @@ pub record QuietSteps (ks : List ℕ) (i : ℕ) (t : Track) (r : ℕ) : Type 0 w
   pub quiet : QuietFor ks r i t
   pub exact : r < clockEnd → endsQuiet ks i (leap t r) ≡ true
 
--- r is the number of ticks before the first in which a step of the tracks of these numbers ends the quiet, or a where that is less
-pub record Fewest (ks : List ℕ) (ts : List Track) (is : List ℕ) (a r : ℕ) : Type 0 where
+-- the master of the follower of this number
+abbrev pub masterOf : List Track → ℕ → Track
+masterOf ts i = trackAt ts (trackAt ts i .master)
+
+-- r ticks, or a where that is less, in which no step of the players ends the quiet and each of the followers keeps its band; then a step
+-- ends the quiet, or a band changes, or up to that tick a track of a follower's pair leaves its line
+pub record Fewest (ks : List ℕ) (ts : List Track) (players followers : List ℕ) (a r : ℕ) : Type 0 where
   pub small : r ≤ a
-  pub quiet : Each (λ i. QuietFor ks r i (trackAt ts i)) is
-  pub exact : r < a → Some (λ i. endsQuiet ks i (leap (trackAt ts i) r) ≡ true) is
+  pub quiet : Each (λ i. QuietFor ks r i (trackAt ts i)) players
+  pub steady : Each (λ i. SteadyFor r (trackAt ts i) (masterOf ts i)) followers
+  pub exact : r < a → Some (λ i. endsQuiet ks i (leap (trackAt ts i) r) ≡ true) players
+      ⊎ Some (λ i. Unsteady r (trackAt ts i) (masterOf ts i)) followers
+
+-- the follower of this number and its master are tracks, and its thresholds and its band keep their rules
+pub record WithMaster (ts : List Track) (i : ℕ) : Type 0 where
+  pub master : trackAt ts i .master < trackCount
+  pub valid : Valid (trackAt ts i)
+  pub valid-master : Valid (masterOf ts i)
+  pub pairs : pairsTest 0 (trackAt ts i .thresholds) (trackAt ts i .events) ≡ true
+  pub band : trackAt ts i .band ≤ length (thresholdsOf (trackAt ts i))
 
 -- a track that can be leapt, and the tracks of these numbers can
 pub record CanLeap (t : Track) : Type 0 where

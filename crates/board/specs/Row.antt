@@ -1,6 +1,6 @@
 -- Calls and replies as rows of numbers, what a row does, and what it leaves.
 use Prim.Native.Nat.{ℕ, zero, suc, _-_}
-use mathlib.Core.Bool.{cond}
+use mathlib.Core.Bool.{Bool, false, cond}
 use mathlib.Core.List.{List, [], _∷_, _++_}
 use mathlib.Core.Option.{Option, none, some}
 use lib.Dec.{eqb}
@@ -11,6 +11,8 @@ use Rattle.track.specs.Number.{coordinateAt}
 use Rattle.board.specs.declared.Board.{Board}
 use Rattle.board.specs.declared.call.Call.{Call}
 use Rattle.board.specs.declared.call.Call.the-variants as call
+use Rattle.board.specs.declared.call.Pairs.{Pairs}
+use Rattle.board.specs.declared.call.Pairs.the-variants as pairs
 use Rattle.board.specs.Call.{TrackValues, PointValues, Reply, accepted, refused, done, logFull, clockEnded, clockIs, trackIs, pointIs, countIs, does}
 use Rattle.board.specs.Cut.{All, Did}
 use Rattle.board.specs.Replay.{World}
@@ -21,11 +23,11 @@ use Rattle.board.specs.Log.{writeAt}
 
 -- ---- a call
 
--- the numbers of a call's row: its code, then six for its arguments; those that it has no use for are not read
+-- the numbers of a call's row: its code, then thirteen for its arguments; those that it has no use for are not read
 abbrev pub callWidth : ℕ
-callWidth = 7
+callWidth = 14
 
--- codes 1 to 16 are the script's lines in the order of 01, 17 to 20 the queries; with any other a row is no call
+-- codes 1 to 16 are the script's lines in the order of 01, 17 to 20 the queries; any other is no call of six numbers
 abbrev pub callFrom : ℕ → ℤ → ℤ → ℤ → ℤ → ℤ → ℤ → Option Call
 callFrom n a b c d e f =
     cond (eqb n 1) (some (call.AddTrack a b c))
@@ -54,11 +56,47 @@ abbrev pub callOf : ℤ → ℤ → ℤ → ℤ → ℤ → ℤ → ℤ → Opti
 callOf (pos n) a b c d e f = callFrom n a b c d e f
 callOf (negsuc n) a b c d e f = none
 
+-- number k of a row
+abbrev pub rowNumber : List ℤ → ℕ → ℤ
+rowNumber zs k = getD zs k (pos 0)
+
+-- the call of the code and the six numbers that numbers begin with
+abbrev pub plainAt : List ℤ → Option Call
+plainAt zs = callOf (rowNumber zs 0) (rowNumber zs 1) (rowNumber zs 2) (rowNumber zs 3) (rowNumber zs 4) (rowNumber zs 5) (rowNumber zs 6)
+
+-- code 21 is master: its track, the master, the number of pairs, and five pairs, of which so many are read
+abbrev pub masterCode : ℕ
+masterCode = 21
+
+abbrev pub isCode : ℕ → ℤ → Bool
+isCode k (pos n) = eqb n k
+isCode k (negsuc n) = false
+
+-- so many of five pairs; five, or more than there are, are more than four
+abbrev pub pairsFrom : ℕ → ℤ → ℤ → ℤ → ℤ → ℤ → ℤ → ℤ → ℤ → ℤ → ℤ → Pairs
+pairsFrom zero a b c d e f g h i j = pairs.Nothing
+pairsFrom (suc zero) a b c d e f g h i j = pairs.One a b
+pairsFrom (suc (suc zero)) a b c d e f g h i j = pairs.Two a b c d
+pairsFrom (suc (suc (suc zero))) a b c d e f g h i j = pairs.Three a b c d e f
+pairsFrom (suc (suc (suc (suc zero)))) a b c d e f g h i j = pairs.Four a b c d e f g h
+pairsFrom (suc (suc (suc (suc (suc n))))) a b c d e f g h i j = pairs.More a b c d e f g h i j
+
+abbrev pub pairsIn : ℕ → List ℤ → Pairs
+pairsIn n zs =
+    pairsFrom n (rowNumber zs 4) (rowNumber zs 5) (rowNumber zs 6) (rowNumber zs 7) (rowNumber zs 8) (rowNumber zs 9)
+    (rowNumber zs 10) (rowNumber zs 11) (rowNumber zs 12) (rowNumber zs 13)
+
+-- a negative number of pairs is no call
+abbrev pub masterCall : ℤ → ℤ → ℤ → (ℕ → Pairs) → Option Call
+masterCall track master (pos n) ps = some (call.Master track master (ps n))
+masterCall track master (negsuc n) ps = none
+
+abbrev pub masterIn : List ℤ → Option Call
+masterIn zs = masterCall (rowNumber zs 1) (rowNumber zs 2) (rowNumber zs 3) (λ n. pairsIn n zs)
+
 -- the call of the row that numbers begin with
 abbrev pub callAt : List ℤ → Option Call
-callAt zs =
-    callOf (getD zs 0 (pos 0)) (getD zs 1 (pos 0)) (getD zs 2 (pos 0)) (getD zs 3 (pos 0)) (getD zs 4 (pos 0)) (getD zs 5 (pos 0))
-    (getD zs 6 (pos 0))
+callAt zs = cond (isCode masterCode (rowNumber zs 0)) (masterIn zs) (plainAt zs)
 
 -- the call that the code has read, if it is one
 abbrev pub codedAs : Coded → Option Call
@@ -80,7 +118,7 @@ callsIn (some c ∷ ls) = c ∷ callsIn ls
 
 -- the numbers of a reply's row: its kind, then what it tells, then zeros
 abbrev pub replyWidth : ℕ
-replyWidth = 28
+replyWidth = 48
 
 abbrev pub padded : List ℕ → List ℕ
 padded xs = xs ++ replicate (replyWidth - length xs) 0
@@ -99,7 +137,20 @@ trackNumbers t =
     ∷ t .direction
     ∷ t .repeat
     ∷ t .due
-    ∷ t .actions
+    ∷ t .actions ++ (t .master ∷ t .band ∷ t .thresholds ++ t .events)
+
+-- where they stand in the row of a track, behind the reply's kind: the action cells; the master and the band; the thresholds; their events
+abbrev pub cellsAt : ℕ
+cellsAt = 12
+
+abbrev pub masterAt : ℕ
+masterAt = 28
+
+abbrev pub thresholdsAt : ℕ
+thresholdsAt = 30
+
+abbrev pub eventsAt : ℕ
+eventsAt = 34
 
 abbrev pub pointNumbers : PointValues → List ℕ
 pointNumbers p = p .track ∷ coordinateAt (p .position) .0 ∷ p .event ∷ p .wait ∷ p .command ∷ p .target ∷ []

@@ -1,16 +1,18 @@
 -- The calls that set a board up, and clear (01, "Other calls" and "Turned down"), each as its guards in order.
 use Prim.Native.Nat.{ℕ, _+_, _^_}
-use mathlib.Core.List.{List}
-use mathlib.Core.Bool.{Bool, cond}
-use lib.ListN.{set}
-use lib.IntN.{ℤ}
-use lib.Dec.{ltb, eqb}
+use mathlib.Core.List.{List, [], _∷_}
+use mathlib.Core.Bool.{Bool, true, false, cond, not, _&&_}
+use lib.ListN.{set, getD, length}
+use lib.IntN.{ℤ, pos}
+use lib.Dec.{ltb, leb, eqb}
 use Rattle.track.specs.declared.Track.{Track}
 use Rattle.track.specs.declared.Coordinate.{Coordinate}
 use Rattle.track.specs.declared.setup.Change.{Change}
 use Rattle.track.specs.declared.setup.Changed.{Changed}
 use Rattle.track.specs.declared.setup.Answer.the-variants.{Accepted, Refused}
-use Rattle.track.specs.Rule.{newTrack}
+use Rattle.track.specs.Rule.{STOPPED, newTrack, eventMost, thresholdCount, thresholdMost}
+use Rattle.track.specs.Follow.{following}
+use Rattle.track.specs.declared.number.Natural.{Natural}
 use Rattle.track.specs.Number.{naturalOf, coordinateOf, within, onNatural, onPlace}
 use Rattle.track.specs.Setup.{changedBy, settled}
 use Rattle.board.specs.declared.Board.{Board}
@@ -20,8 +22,8 @@ use Rattle.board.specs.declared.points.Stored.{Stored}
 use Rattle.board.specs.declared.setup.Outcome.{Outcome}
 use Rattle.board.specs.declared.setup.Described.{Described}
 use Rattle.board.specs.declared.setup.Described.the-variants as described
-use Rattle.board.specs.Points.{key, keyOf, infoOf, storedIn, droppedFrom}
-use Rattle.board.specs.Board.{trackAt, isPresent, eventMost, allowedTest, unbrokenTest, foundIn}
+use Rattle.board.specs.Points.{key, keyOf, infoOf, ascendingFrom, storedIn, droppedFrom}
+use Rattle.board.specs.Board.{trackAt, isPresent, allowedTest, unbrokenTest, foundIn}
 
 -- a refusal carries its number alone, the board equal to before
 abbrev pub refused : ℕ → Board → Outcome
@@ -110,6 +112,64 @@ dropPoint b track position =
     (onTrack b track
     (λ i. cond (settled (trackAt (b .tracks) i .mode))
     (onPlace (coordinateOf position) (λ l. putPoints b 4 (droppedFrom (b .points) (key i (l .0)))) (refused 4 b)) (refused 2 b)))
+
+-- ---- master (02, 2.1)
+
+-- The numbers of the pairs come as one list, a threshold and its event in turn.
+abbrev pub isIn : Natural → Bool
+isIn n = onNatural n (λ k. true) false
+
+abbrev pub numberIn : Natural → ℕ
+numberIn n = onNatural n (λ k. k) 0
+
+-- the number in a place of them, if it is from 1 to the most; 0 where it is not, and where there is none
+abbrev pub numberAt : List ℤ → ℕ → ℕ → ℕ
+numberAt zs at most = numberIn (naturalOf (getD zs at (pos 0)) 1 most)
+
+-- "thresholds, 1 to 1,000,000, each with an event 1 to 255"; a last threshold that has no event is out of range
+unfoldable pub rangedTest : List ℤ → Bool
+rangedTest [] = true
+rangedTest (x ∷ []) = false
+rangedTest (x ∷ e ∷ zs) = isIn (naturalOf x 1 thresholdMost) && (isIn (naturalOf e 1 eventMost) && rangedTest zs)
+
+-- the thresholds, and their events
+unfoldable pub thresholdsIn : List ℤ → List ℕ
+thresholdsIn [] = []
+thresholdsIn (x ∷ []) = []
+thresholdsIn (x ∷ e ∷ zs) = numberIn (naturalOf x 1 thresholdMost) ∷ thresholdsIn zs
+
+unfoldable pub eventsIn : List ℤ → List ℕ
+eventsIn [] = []
+eventsIn (x ∷ []) = []
+eventsIn (x ∷ e ∷ zs) = numberIn (naturalOf e 1 eventMost) ∷ eventsIn zs
+
+-- "up to four strictly rising thresholds"
+unfoldable pub risingTest : List ℕ → Bool
+risingTest xs = leb (length xs) thresholdCount && ascendingFrom 0 xs
+
+-- a row of four, 0 where there is none
+abbrev pub rowOf : List ℕ → List ℕ
+rowOf xs = getD xs 0 0 ∷ getD xs 1 0 ∷ getD xs 2 0 ∷ getD xs 3 0 ∷ []
+
+-- "No thresholds means no master", whose number is 0
+abbrev pub masterNamed : ℕ → List ℤ → ℕ
+masterNamed m [] = 0
+masterNamed m (z ∷ zs) = m
+
+-- 2 mode (STOPPED), 3 itself or a number out of range, 10 not rising or over four
+unfoldable pub putMaster : Board → ℕ → ℕ → List ℤ → Outcome
+putMaster b i m zs =
+    cond (eqb (trackAt (b .tracks) i .mode) STOPPED)
+    (cond (not (eqb i m) && rangedTest zs)
+    (cond (risingTest (thresholdsIn zs))
+    (accepted (boardWith b
+    (set (b .tracks) i (following (trackAt (b .tracks) i) (masterNamed m zs) (rowOf (thresholdsIn zs)) (rowOf (eventsIn zs))))
+    (b .present) (b .points) (b .held)))
+    (refused 10 b)) (refused 3 b)) (refused 2 b)
+
+-- 3 broken, 1 track, 1 master, then 2, 3 and 10
+unfoldable pub setMaster : Board → ℤ → ℤ → List ℤ → Outcome
+setMaster b track master zs = onUnbroken b (onTrack b track (λ i. onTrack b master (λ m. putMaster b i m zs)))
 
 -- ---- clear: held becomes 0
 unfoldable pub clearBoard : Board → Outcome

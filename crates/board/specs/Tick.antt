@@ -1,5 +1,5 @@
 -- The tick of a board (01, "Tick of the board"), apart from the log and the number of records held.
-use Prim.Native.Nat.{ℕ, zero, suc, _/_, _%_, _+_, _*_, _≤_, _<_}
+use Prim.Native.Nat.{ℕ, zero, suc, _/_, _%_, _+_, _-_, _*_, _≤_, _<_}
 use mathlib.Core.List.{List, [], _∷_, _++_}
 use mathlib.Core.Bool.{Bool, true, cond, not, _||_}
 use mathlib.Core.Path.{_≡_}
@@ -8,14 +8,16 @@ use lib.Dec.{eqb}
 use Rattle.track.specs.declared.Track.{Track}
 use Rattle.track.specs.declared.grid.Decision.{Decision}
 use Rattle.track.specs.declared.grid.Decision.the-variants as decision
-use Rattle.track.specs.Rule.{PLAYING, Valid, actionCell, entered}
+use Rattle.track.specs.Rule.{PLAYING, Valid, actionCell, entered, thresholdCount, eventMost}
+use Rattle.track.specs.Follow.{follows, judged, banded}
 use Rattle.track.specs.Grid.{gridOf}
 use Rattle.track.specs.Walk.{arrival, passesAt, step}
 use Rattle.board.specs.declared.Board.{Board}
 use Rattle.board.specs.declared.log.Record.{Record}
 use Rattle.board.specs.declared.tick.Stepped.{Stepped}
 use Rattle.board.specs.Points.{key, keysOf, infosOf, infoAt, eventOf, commandOf, targetOf, waits, trackCount}
-use Rattle.board.specs.Board.{eventMost, trackAt, isPresent}
+use Rattle.board.specs.Replay.{Each}
+use Rattle.board.specs.Board.{trackAt, isPresent}
 use Rattle.board.specs.Log.{detailUnit}
 
 -- ---- the members of a word
@@ -140,15 +142,54 @@ unfoldable pub runAll : ℕ → List ℕ → Stage → Stage
 runAll clock [] s = s
 runAll clock (d ∷ ds) s = runAll clock ds (runCommand clock d s)
 
--- the records of a tick at most: two of each step, and one of each command
-abbrev pub tickMost : ℕ
-tickMost = 48
-
--- ---- the tick: the playing tracks, then the commands of the points reached; `clock` is the clock after the tick
-unfoldable pub tickFrom : List ℕ → List ℕ → ℕ → ℕ → List Track → Stage
-tickFrom keys infos clock present ts =
+-- ---- the playing tracks, then the commands of the points reached; `clock` is the clock after the tick
+unfoldable pub playFrom : List ℕ → List ℕ → ℕ → ℕ → List Track → Stage
+playFrom keys infos clock present ts =
     let s = stepAll keys infos clock (members (playingWord present ts)) (staged ts [] []) in
     runAll clock (s .reached) s
+
+-- ---- After a tick's commands, for each follower in ascending order (02, 2.1)
+
+-- the followers form a 16-bit word, as the playing tracks do
+abbrev pub followBit : ℕ → Track → ℕ
+followBit bit t = cond (follows t) bit 0
+
+unfoldable pub followWord : ℕ → List Track → ℕ
+followWord present [] = 0
+followWord present (t ∷ ts) = followBit (present % 2) t + followWord (present / 2) ts * 2
+
+-- kind 4, "Entering a band other than the one held till then, and not none": the follower's number, position and passes, the
+-- threshold's event, detail the master's number
+unfoldable pub bandRecords : ℕ → ℕ → Track → ℕ → List Record
+bandRecords clock i t band =
+    cond (eqb band (t .band) || eqb band 0) []
+    (recordOf clock i 4 (getD (t .events) (band - 1) 0) (t .master) (t .position .0) (t .passes .0) ∷ [])
+
+unfoldable pub followMember : ℕ → ℕ → Stage → Stage
+followMember clock i s =
+    let t = trackAt (s .tracks) i in
+    let band = judged t (trackAt (s .tracks) (t .master)) in
+    staged (set (s .tracks) i (banded t band)) (s .records ++ bandRecords clock i t band) (s .reached)
+
+unfoldable pub followAll : ℕ → List ℕ → Stage → Stage
+followAll clock [] s = s
+followAll clock (i ∷ is) s = followAll clock is (followMember clock i s)
+
+-- the number of present tracks that hold a band other than none
+abbrev pub bandBit : ℕ → Track → ℕ
+bandBit bit t = cond (eqb (t .band) 0) 0 bit
+
+unfoldable pub bandCount : ℕ → List Track → ℕ
+bandCount present [] = 0
+bandCount present (t ∷ ts) = bandBit (present % 2) t + bandCount (present / 2) ts
+
+-- the records of a tick at most: two of each step, one of each command and one of each follower
+abbrev pub tickMost : ℕ
+tickMost = 64
+
+-- ---- the tick: the playing tracks, the commands of the points reached, the followers
+unfoldable pub tickFrom : List ℕ → List ℕ → ℕ → ℕ → List Track → Stage
+tickFrom keys infos clock present ts = followAll clock (members (followWord present ts)) (playFrom keys infos clock present ts)
 
 abbrev pub tickOf : Board → Stage
 tickOf b = tickFrom (keysOf (b .points)) (infosOf (b .points)) (b .clock .0 + 1) (b .present) (b .tracks)
@@ -166,3 +207,15 @@ pub record TracksRule (present : ℕ) (ts : List Track) (ds : List ℕ) : Type 0
   pub tracks : (i : ℕ) → isPresent present i ≡ true → Valid (trackAt ts i)
   pub infos : (j : ℕ) → j < length ds → InfoRule (getD ds j 0)
   pub targets : (j : ℕ) → j < length ds → (commandOf (getD ds j 0) ≡ 0 → ⊥) → isPresent present (targetOf (getD ds j 0)) ≡ true
+
+-- the follower t of the master m can be judged: both are valid, it has four thresholds, the master's number and each event are in their ranges
+pub record FollowRule (t m : Track) : Type 0 where
+  pub track : Valid t
+  pub number : t .master < trackCount
+  pub master : Valid m
+  pub thresholds : length (t .thresholds) ≡ thresholdCount
+  pub event : (j : ℕ) → getD (t .events) j 0 ≤ eventMost
+
+-- the same of the tracks of these numbers
+abbrev pub FollowRules : List Track → List ℕ → Type 0
+FollowRules ts is = Each (λ i. FollowRule (trackAt ts i) (trackAt ts (trackAt ts i .master))) is

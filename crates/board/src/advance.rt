@@ -1,12 +1,14 @@
 // Advance: the ticks of a board, given by its parts, and the call on any board, count and log.
 use crate::Board;
 use crate::call::Advanced;
+use crate::follow::followers;
+use crate::follow::judge_bands;
 use crate::log::Record;
 use crate::points::Points;
 use crate::quiet::leapt;
 use crate::quiet::quiet;
-use crate::quiet::smaller;
 use crate::rules::unbroken;
+use crate::stay::smaller;
 use crate::tick::Staged;
 use crate::tick::commit;
 use crate::tick::needs_more;
@@ -38,7 +40,8 @@ pub struct Left {
 }
 
 // So many ticks of an unbroken board, given by its parts, unless the clock or the log ends them. Each turn leaps the quiet ticks
-// ahead and walks the one behind them; after a tick with records the next is walked without looking for a leap.
+// ahead and walks the one behind them: its steps, its commands, then the bands of its followers. After a tick with records the next is
+// walked without looking for a leap.
 fn run<'a>(
     given: [Track; Board::TRACKS],
     present: u16,
@@ -60,6 +63,7 @@ fn run<'a>(
     let mut tracks = given;
     let mut back = given;
     let mut word = playing(given, present);
+    let led = followers(given, present);
     let mut clock = from.0;
     let mut held = kept;
     let mut taken: u32 = 0;
@@ -75,7 +79,7 @@ fn run<'a>(
         let most = smaller(wanted - taken, Ticks::END - clock);
         let mut skipped: u32 = 0;
         if look {
-            let stretch = quiet(tracks, word, keys, infos, n);
+            let stretch = quiet(tracks, word, led, keys, infos, n);
             skipped = smaller(stretch.0, most);
         }
         if skipped == most {
@@ -136,6 +140,12 @@ fn run<'a>(
             word = done.word;
             let moved = done.tracks;
             tracks = moved;
+        }
+        if led != 0 {
+            let f = judge_bands(tracks, led, Ticks(clock + 1), &mut stage, total);
+            total = f.count;
+            let judged = f.tracks;
+            tracks = judged;
         }
         if room < total {
             tracks = back;

@@ -4,6 +4,7 @@ use crate::advance::Progress;
 use crate::advance::advance;
 use crate::call::Advanced;
 use crate::call::Call;
+use crate::call::Pairs;
 use crate::call::Told;
 use crate::mode::pause;
 use crate::mode::play;
@@ -18,8 +19,9 @@ use track::Coordinate;
 use track::Track;
 use track::setup::Answer;
 ghost use mathlib.Core.Path.{_≡_};
-ghost use Rattle.board.specs.Call.{Gives, does, world, answered, advancedSaid, clockSaid, trackSaid, pointSaid, countSaid, replyOf};
+ghost use Rattle.board.specs.Call.{Gives, does, world, answered, advancedSaid, clockSaid, trackSaid, pointSaid, countSaid, replyOf, pairNumbers};
 ghost use Rattle.board.specs.Apply.{Says};
+ghost use Rattle.board.specs.Setup.{setMaster};
 
 // What a call tells, and the board after it.
 pub struct Applied {
@@ -37,7 +39,7 @@ fn telling(told: Told, board: Board) -> Applied
 }
 
 // A call that is accepted or refused.
-fn outcome(o: Outcome) -> Applied
+pub fn outcome(o: Outcome) -> Applied
     ensures { λ r. ⌜ Says (answered (o .answer)) (o .board) r ⌝ }
 {
     let answer = o.answer;
@@ -103,6 +105,38 @@ fn count(read: CountRead, board: Board) -> Applied
     }
 }
 
+// A master call with its pairs as one row of numbers.
+fn master(b: Board, i: i64, m: i64, pairs: Pairs) -> Outcome
+    ensures { λ r. ⌜ r ≡ setMaster b i m (pairNumbers pairs) ⌝ }
+{
+    match pairs {
+        Pairs::Nothing => {
+            let row = [0i64; 0];
+            b.set_master(i, m, &row)
+        }
+        Pairs::One(x1, e1) => {
+            let row = [x1, e1];
+            b.set_master(i, m, &row)
+        }
+        Pairs::Two(x1, e1, x2, e2) => {
+            let row = [x1, e1, x2, e2];
+            b.set_master(i, m, &row)
+        }
+        Pairs::Three(x1, e1, x2, e2, x3, e3) => {
+            let row = [x1, e1, x2, e2, x3, e3];
+            b.set_master(i, m, &row)
+        }
+        Pairs::Four(x1, e1, x2, e2, x3, e3, x4, e4) => {
+            let row = [x1, e1, x2, e2, x3, e3, x4, e4];
+            b.set_master(i, m, &row)
+        }
+        Pairs::More(x1, e1, x2, e2, x3, e3, x4, e4, x5, e5) => {
+            let row = [x1, e1, x2, e2, x3, e3, x4, e4, x5, e5];
+            b.set_master(i, m, &row)
+        }
+    }
+}
+
 // A call on a board and its log.
 pub fn apply(b: Board, c: Call, log: &mut [u8]) -> Applied
     ensures { λ r. ⌜ Gives (does c (world b (now (log .entry)))) (replyOf (r .told) (r .track)) (r .board) (now (log .exit)) ⌝ }
@@ -122,5 +156,6 @@ pub fn apply(b: Board, c: Call, log: &mut [u8]) -> Applied
         Call::Track(i) => track(b.track(i), b),
         Call::Point(i, p) => point(b.point(i, p), b),
         Call::PointCount(i, from, to) => count(b.point_count(i, from, to), b),
+        Call::Master(i, m, pairs) => outcome(master(b, i, m, pairs)),
     }
 }

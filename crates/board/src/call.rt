@@ -21,6 +21,19 @@ pub enum Call {
     Point(i64, i64),
     // Track, from, to.
     PointCount(i64, i64, i64),
+    // Track, master, thresholds with their events.
+    Master(i64, i64, Pairs),
+}
+
+// Thresholds, each with its event behind it. An enum cannot hold an array; more than four are refused whatever they are,
+// so that five stand for any greater number.
+pub enum Pairs {
+    Nothing,
+    One(i64, i64),
+    Two(i64, i64, i64, i64),
+    Three(i64, i64, i64, i64, i64, i64),
+    Four(i64, i64, i64, i64, i64, i64, i64, i64),
+    More(i64, i64, i64, i64, i64, i64, i64, i64, i64, i64),
 }
 
 // What an advance answers: why it ended, with the ticks taken, or a refusal's number.

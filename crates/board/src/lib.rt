@@ -9,8 +9,10 @@ ghost use Rattle.board.specs.Board.{freshBoard};
 pub mod advance;
 pub mod apply;
 pub mod call;
+mod follow;
 pub mod lists;
 pub mod log;
+pub mod master;
 pub mod mode;
 pub mod points;
 pub mod query;
@@ -19,6 +21,7 @@ pub mod row;
 mod rules;
 pub mod setup;
 mod stay;
+mod steady;
 mod tick;
 
 #[repr(C)]

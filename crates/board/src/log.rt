@@ -14,7 +14,7 @@ pub struct Record {
     // The clock after the tick, or as it is at a mode call.
     pub clock: Ticks,
     pub track: u8,
-    // 1 point, 2 mode change, 3 refused command.
+    // 1 point, 2 mode change, 3 refused command, 4 band entered.
     pub kind: u8,
     pub event: u8,
     pub detail: u8,
@@ -40,6 +40,8 @@ impl Record {
     pub const CHANGE: u8 = 2;
 
     pub const REFUSAL: u8 = 3;
+
+    pub const BAND: u8 = 4;
 }
 
 fn put_four(log: &mut [u8], at: usize, a: u8, b: u8, c: u8, d: u8)
@@ -104,14 +106,14 @@ pub(crate) fn put_record(r: Record, log: &mut [u8], at: usize)
     put_word(log, at + 12, passes);
 }
 
-// Whether a kind is 1 to 3.
+// Whether a kind is 1 to 4.
 fn kind_known(kind: u8) -> bool
     ensures { λ r. ⌜ r ≡ kindTest kind ⌝ }
 {
     if kind < Record::POINT {
         return false;
     }
-    kind <= Record::REFUSAL
+    kind <= Record::BAND
 }
 
 // Packs a record at a place: refused 3 for another kind, or where its bytes do not fit there.

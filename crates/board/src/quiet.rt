@@ -1,17 +1,22 @@
-// The quiet stretch of a board: ticks in which no playing track reaches a point of its own or stops, taken at once.
+// The quiet stretch of a board: ticks in which no playing track reaches a point of its own or stops and no follower's band changes,
+// taken at once.
 use crate::Board;
 use crate::points::Near;
 use crate::points::Points;
+use crate::stay::smaller;
+use crate::steady::steady;
 use track::Ticks;
 use track::Track;
 ghost use mathlib.Core.Path.{_≡_};
 ghost use mathlib.Core.Bool.{true};
-ghost use Prim.Native.Nat.{_≤_, _<_, min};
+ghost use mathlib.Core.List.{[]};
+ghost use Prim.Native.Nat.{_≤_, _<_};
 ghost use lib.ListN.{length, take};
 ghost use Rattle.track.specs.Rule.{Valid, clockEnd};
 ghost use Rattle.board.specs.Points.{ascendingFrom, trackCount};
 ghost use Rattle.board.specs.Tick.{members};
-ghost use Rattle.board.specs.Quiet.{NonzeroInfos, ToPoint, QuietSteps, Leapable, Fewest, leapInto};
+ghost use Rattle.board.specs.Replay.{Each};
+ghost use Rattle.board.specs.Quiet.{NonzeroInfos, ToPoint, QuietSteps, Leapable, WithMaster, Fewest, leapInto};
 
 // The ticks before the first that reaches a point of the track, or the clock's end where its span has none: the point
 // at the next location or the nearest further on, else the one on home or the nearest further on from there.
@@ -61,17 +66,8 @@ fn quiet_steps<'a>(t: Track, track: u32, keys: &'a [u32], infos: &'a [u32], n: u
     Ticks(smaller(stop.0, point.0))
 }
 
-pub(crate) fn smaller(a: u32, b: u32) -> u32
-    ensures { λ r. ⌜ r ≡ min a b ⌝ }
-{
-    if a <= b {
-        return a;
-    }
-    b
-}
-
-// The fewest quiet ticks of the tracks in the word, at most the clock's end.
-pub(crate) fn quiet<'a>(
+// The fewest ticks before a track in the word reaches a point or stops, at most the clock's end.
+fn quiet_players<'a>(
     tracks: [Track; Board::TRACKS],
     word: u16,
     keys: &'a [u32],
@@ -82,7 +78,7 @@ pub(crate) fn quiet<'a>(
     requires { ⌜ (n ≤ length (now keys)) × (n ≤ length (now infos)) ⌝ }
     requires { ⌜ ascendingFrom 0 (take n (now keys)) ≡ true ⌝ }
     requires { ⌜ NonzeroInfos (take n (now keys)) (take n (now infos)) ⌝ }
-    ensures { λ r. ⌜ Fewest (take n (now (keys .entry))) tracks (members word) clockEnd (r .0) ⌝ }
+    ensures { λ r. ⌜ Fewest (take n (now (keys .entry))) tracks (members word) [] clockEnd (r .0) ⌝ }
 {
     let mut fewest: u32 = Ticks::END;
     let mut left = word;
@@ -94,6 +90,49 @@ pub(crate) fn quiet<'a>(
         left -= 1u16 << i;
     }
     Ticks(fewest)
+}
+
+// The fewest ticks in which the followers in the word keep their bands, at most so many.
+fn steady_followers(tracks: [Track; Board::TRACKS], led: u16, most: Ticks) -> Ticks
+    requires { ⌜ Each (WithMaster tracks) (members led) ⌝ }
+    requires { ⌜ most .0 ≤ clockEnd ⌝ }
+    ensures { λ r. ⌜ Fewest [] tracks [] (members led) (most .0) (r .0) ⌝ }
+{
+    let mut fewest = most.0;
+    let mut left = led;
+    while 0 < left {
+        let i = u16::trailing_zeros(left) as usize;
+        let t = tracks[i];
+        let j = t.master as usize;
+        let m = tracks[j];
+        let ticks = steady(t, m);
+        fewest = smaller(fewest, ticks.0);
+        left -= 1u16 << i;
+    }
+    Ticks(fewest)
+}
+
+// The quiet ticks of a board whose tracks in the word play and whose tracks in `led` follow, at most the clock's end.
+pub(crate) fn quiet<'a>(
+    tracks: [Track; Board::TRACKS],
+    word: u16,
+    led: u16,
+    keys: &'a [u32],
+    infos: &'a [u32],
+    n: usize,
+) -> Ticks
+    requires { ⌜ Leapable tracks (members word) ⌝ }
+    requires { ⌜ Each (WithMaster tracks) (members led) ⌝ }
+    requires { ⌜ (n ≤ length (now keys)) × (n ≤ length (now infos)) ⌝ }
+    requires { ⌜ ascendingFrom 0 (take n (now keys)) ≡ true ⌝ }
+    requires { ⌜ NonzeroInfos (take n (now keys)) (take n (now infos)) ⌝ }
+    ensures { λ r. ⌜ Fewest (take n (now (keys .entry))) tracks (members word) (members led) clockEnd (r .0) ⌝ }
+{
+    let stretch = quiet_players(tracks, word, keys, infos, n);
+    if led == 0 {
+        return stretch;
+    }
+    steady_followers(tracks, led, stretch)
 }
 
 // The tracks in the word, k ticks on.

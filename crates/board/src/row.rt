@@ -3,11 +3,13 @@ use crate::Board;
 use crate::apply::Applied;
 use crate::apply::apply;
 use crate::call::Call;
+use crate::call::Pairs;
 use crate::call::Told;
 use crate::points::Point;
 use track::Coordinate;
 use track::Track;
 use track::number::Natural;
+use track::number::capped;
 use track::number::in_range;
 use track::setup::Answer;
 use track::setup::Change;
@@ -15,12 +17,22 @@ ghost use mathlib.Core.Path.{_≡_};
 ghost use Prim.Native.Nat.{_+_, _*_, _≤_};
 ghost use lib.ListN.{length, drop, take};
 ghost use Rattle.board.specs.Row.{codedAs, callOf, callAt, padded, trackNumbers, pointNumbers, numbersOf, rowDoes, RowDone, callWidth, replyWidth};
-ghost use mathlib.Core.List.{_∷_, [], _++_};
+ghost use Rattle.board.specs.Row.{cellsAt, masterAt, pairsFrom, pairsIn, masterIn, plainAt};
+ghost use Rattle.track.specs.Rule.{thresholdCount};
+ghost use mathlib.Core.List.{_∷_, []};
 ghost use Rattle.board.specs.Log.{writeAt};
 ghost use Rattle.board.specs.Call.{trackValues, pointValues, replyOf, Gives, world, refused};
 
-// Numbers of a call's row.
-pub const CALL_WIDTH: usize = 7;
+// The code of a master call in a row, and the last of those before it.
+const MASTER: u32 = 21;
+
+const LAST_PLAIN: u32 = MASTER - 1;
+
+// The pairs that a row has room for: one more than a track has thresholds.
+const PAIRS: u32 = Track::THRESHOLDS as u32 + 1;
+
+// Numbers of a call's row: the code, the track, the master and the number of pairs, then the pairs.
+pub const CALL_WIDTH: usize = 4 + 2 * (Track::THRESHOLDS + 1);
 
 // What a row comes to.
 pub enum Coded {
@@ -32,7 +44,7 @@ pub enum Coded {
 pub fn call_of(code: i64, a: i64, b: i64, c: i64, d: i64, e: i64, f: i64) -> Coded
     ensures { λ r. ⌜ codedAs r ≡ callOf code a b c d e f ⌝ }
 {
-    let Natural::In(n) = in_range(code, 1, 20) else {
+    let Natural::In(n) = in_range(code, 1, LAST_PLAIN) else {
         return Coded::Nothing;
     };
     match n {
@@ -59,12 +71,69 @@ pub fn call_of(code: i64, a: i64, b: i64, c: i64, d: i64, e: i64, f: i64) -> Cod
     }
 }
 
-// The call of row i.
-fn call_at(calls: &[i64], i: usize) -> Coded
-    requires { ⌜ i * callWidth + callWidth ≤ length (now calls) ⌝ }
-    ensures { λ r. ⌜ codedAs r ≡ callAt (drop (i * callWidth) (now (calls .entry))) ⌝ }
+// So many of five pairs; five or more are more than four.
+fn pairs_of(
+    n: u32,
+    a: i64,
+    b: i64,
+    c: i64,
+    d: i64,
+    e: i64,
+    f: i64,
+    g: i64,
+    h: i64,
+    i: i64,
+    j: i64,
+) -> Pairs
+    ensures { λ r. ⌜ r ≡ pairsFrom n a b c d e f g h i j ⌝ }
 {
-    let at = i * CALL_WIDTH;
+    match n {
+        0 => Pairs::Nothing,
+        1 => Pairs::One(a, b),
+        2 => Pairs::Two(a, b, c, d),
+        3 => Pairs::Three(a, b, c, d, e, f),
+        4 => Pairs::Four(a, b, c, d, e, f, g, h),
+        _ => Pairs::More(a, b, c, d, e, f, g, h, i, j),
+    }
+}
+
+// The pairs of a row that begins at a place, so many of them.
+fn pairs_at(calls: &[i64], at: usize, n: u32) -> Pairs
+    requires { ⌜ at + callWidth ≤ length (now calls) ⌝ }
+    ensures { λ r. ⌜ r ≡ pairsIn n (drop at (now (calls .entry))) ⌝ }
+{
+    pairs_of(
+        n,
+        calls[at + 4],
+        calls[at + 5],
+        calls[at + 6],
+        calls[at + 7],
+        calls[at + 8],
+        calls[at + 9],
+        calls[at + 10],
+        calls[at + 11],
+        calls[at + 12],
+        calls[at + 13],
+    )
+}
+
+// The master call of a row that begins at a place.
+fn master_at(calls: &[i64], at: usize) -> Coded
+    requires { ⌜ at + callWidth ≤ length (now calls) ⌝ }
+    ensures { λ r. ⌜ codedAs r ≡ masterIn (drop at (now (calls .entry))) ⌝ }
+{
+    let Natural::In(n) = capped(calls[at + 3], PAIRS) else {
+        return Coded::Nothing;
+    };
+    let pairs = pairs_at(calls, at, n);
+    Coded::Call(Call::Master(calls[at + 1], calls[at + 2], pairs))
+}
+
+// Any other call of a row that begins at a place.
+fn plain_at(calls: &[i64], at: usize) -> Coded
+    requires { ⌜ at + callWidth ≤ length (now calls) ⌝ }
+    ensures { λ r. ⌜ codedAs r ≡ plainAt (drop at (now (calls .entry))) ⌝ }
+{
     call_of(
         calls[at],
         calls[at + 1],
@@ -76,10 +145,40 @@ fn call_at(calls: &[i64], i: usize) -> Coded
     )
 }
 
+// The call of row i.
+fn call_at(calls: &[i64], i: usize) -> Coded
+    requires { ⌜ i * callWidth + callWidth ≤ length (now calls) ⌝ }
+    ensures { λ r. ⌜ codedAs r ≡ callAt (drop (i * callWidth) (now (calls .entry))) ⌝ }
+{
+    let at = i * CALL_WIDTH;
+    match in_range(calls[at], MASTER, MASTER) {
+        Natural::In(_) => master_at(calls, at),
+        Natural::Outside => plain_at(calls, at),
+    }
+}
+
 // Numbers of a reply's row.
-pub const REPLY_WIDTH: usize = 28;
+pub const REPLY_WIDTH: usize = 48;
+
+// Where a track's action cells begin in its row, its master and band, its thresholds and their events.
+const CELLS_AT: usize = 12;
+
+const MASTER_AT: usize = CELLS_AT + Track::CELLS;
+
+const THRESHOLDS_AT: usize = MASTER_AT + 2;
+
+const EVENTS_AT: usize = THRESHOLDS_AT + Track::THRESHOLDS;
+
+// How many numbers of its row a track has, the kind among them.
+pub const TRACK_WIDTH: usize = EVENTS_AT + Track::THRESHOLDS;
 
 fn wide(x: u8) -> u64
+    ensures { λ r. ⌜ r ≡ x ⌝ }
+{
+    x as u64
+}
+
+fn long(x: u32) -> u64
     ensures { λ r. ⌜ r ≡ x ⌝ }
 {
     x as u64
@@ -110,7 +209,7 @@ fn point_row(p: Point) -> [u64; REPLY_WIDTH]
     row
 }
 
-// A track's numbers but for its action cells.
+// A track's numbers before its action cells, the kind of the reply first.
 fn track_head(t: Track) -> [u64; REPLY_WIDTH]
     ensures { λ r. ⌜ r ≡ padded (6 ∷ take 11 (trackNumbers (trackValues t))) ⌝ }
 {
@@ -130,14 +229,42 @@ fn track_head(t: Track) -> [u64; REPLY_WIDTH]
     row
 }
 
-// A track's sixteen action cells go behind its other twelve numbers, the kind among them.
+// A track's action cells go behind its head.
 fn with_cells(head: [u64; REPLY_WIDTH], cells: [u8; Track::CELLS]) -> [u64; REPLY_WIDTH]
-    ensures { λ r. ⌜ r ≡ take 12 head ++ cells ⌝ }
+    ensures { λ r. ⌜ r ≡ writeAt head cellsAt cells ⌝ }
 {
     let mut row = head;
     let mut j: usize = 0;
     while j < Track::CELLS {
-        row[12 + j] = wide(cells[j]);
+        row[CELLS_AT + j] = wide(cells[j]);
+        j += 1;
+    }
+    row
+}
+
+// Its master and the band held go behind its cells.
+fn with_band(head: [u64; REPLY_WIDTH], master: u8, band: u8) -> [u64; REPLY_WIDTH]
+    ensures { λ r. ⌜ r ≡ writeAt head masterAt (master ∷ band ∷ []) ⌝ }
+{
+    let mut row = head;
+    row[MASTER_AT] = master as u64;
+    row[MASTER_AT + 1] = band as u64;
+    row
+}
+
+// Its thresholds go behind these, and then their events.
+fn with_four(
+    head: [u64; REPLY_WIDTH],
+    at: usize,
+    four: [u32; Track::THRESHOLDS],
+) -> [u64; REPLY_WIDTH]
+    requires { ⌜ at + thresholdCount ≤ replyWidth ⌝ }
+    ensures { λ r. ⌜ r ≡ writeAt head at four ⌝ }
+{
+    let mut row = head;
+    let mut j: usize = 0;
+    while j < Track::THRESHOLDS {
+        row[at + j] = long(four[j]);
         j += 1;
     }
     row
@@ -147,7 +274,12 @@ fn track_row(t: Track) -> [u64; REPLY_WIDTH]
     ensures { λ r. ⌜ r ≡ padded (6 ∷ trackNumbers (trackValues t)) ⌝ }
 {
     let cells = t.actions;
-    with_cells(track_head(t), cells)
+    let thresholds = t.thresholds;
+    let events = t.events;
+    let head = with_cells(track_head(t), cells);
+    let named = with_band(head, t.master, t.band);
+    let limited = with_four(named, THRESHOLDS_AT, thresholds);
+    with_four(limited, EVENTS_AT, events)
 }
 
 // The numbers of a reply, its kind first.

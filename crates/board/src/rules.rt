@@ -10,8 +10,7 @@ ghost use mathlib.Core.Path.{_≡_};
 ghost use Prim.Native.Nat.{_+_, _^_, _≤_, _<_};
 ghost use lib.ListN.{length, take};
 ghost use Rattle.board.specs.Points.{trackCount};
-ghost use Rattle.board.specs.Board.{isPresent, tracksTest, placeTest, allowedTest, pointsTest, unbrokenParts, foundIn};
-ghost use Rattle.track.specs.Rule.{soundTest};
+ghost use Rattle.board.specs.Board.{isPresent, masterTest, trackTest, tracksTest, placeTest, allowedTest, pointsTest, unbrokenParts, foundIn};
 ghost use mathlib.Core.Bool.{false, not, _||_};
 
 // Whether a track is present.
@@ -46,25 +45,53 @@ pub(crate) fn found(present: u16, track: i64) -> Natural
     Natural::Outside
 }
 
-// Whether a track, if present, keeps its rules.
-fn sound_if(present: bool, t: Track, clock: Ticks) -> bool
-    ensures { λ r. ⌜ r ≡ (not present || soundTest t clock) ⌝ }
+// Whether a track's master is another that is present, or 0 where it follows none.
+fn master_kept(present: u16, track: u32, t: Track) -> bool
+    ensures { λ r. ⌜ r ≡ masterTest present track t ⌝ }
 {
-    if !present {
+    let thresholds = t.thresholds;
+    let master = t.master as u32;
+    if thresholds[0] == 0 {
+        return master == 0;
+    }
+    if master == track {
+        return false;
+    }
+    is_present(present, master)
+}
+
+// Whether a present track keeps its rules.
+fn track_kept(present: u16, track: u32, t: Track, clock: Ticks) -> bool
+    ensures { λ r. ⌜ r ≡ trackTest present track t clock ⌝ }
+{
+    if !t.sound(clock) {
+        return false;
+    }
+    if !t.follower_kept(clock) {
+        return false;
+    }
+    master_kept(present, track, t)
+}
+
+// Whether a track, if it is there, keeps its rules.
+fn kept_if(there: bool, present: u16, track: u32, t: Track, clock: Ticks) -> bool
+    ensures { λ r. ⌜ r ≡ (not there || trackTest present track t clock) ⌝ }
+{
+    if !there {
         return true;
     }
-    t.sound(clock)
+    track_kept(present, track, t, clock)
 }
 
 // Whether the present tracks keep their rules.
 fn tracks_kept(tracks: [Track; Board::TRACKS], present: u16, clock: Ticks) -> bool
-    ensures { λ r. ⌜ r ≡ tracksTest present tracks clock ⌝ }
+    ensures { λ r. ⌜ r ≡ tracksTest present present 0 tracks clock ⌝ }
 {
     let mut word = present;
     let mut i: usize = 0;
     while i < Board::TRACKS {
         let t = tracks[i];
-        if !sound_if(word % 2 == 1, t, clock) {
+        if !kept_if(word % 2 == 1, present, i as u32, t, clock) {
             return false;
         }
         word = word / 2;

@@ -2,25 +2,25 @@
 use track::Ticks;
 ghost use mathlib.Core.Path.{_≡_};
 ghost use mathlib.Core.Logic.{_⊎_};
-ghost use Prim.Native.Nat.{_+_, _≤_, _<_, min};
+ghost use Prim.Native.Nat.{_+_, _≤_, _<_, min, max};
 ghost use Rattle.track.specs.Rule.{clockEnd, coordinateLast};
-ghost use Rattle.board.specs.Stay.{Asked, Stays, Divisor, Ends, Rounds, askedMost, sumMost};
+ghost use Rattle.board.specs.Stay.{Asked, Stays, Divisor, Covers, Rounds, askedMost, sumMost};
 
 // The least of a number and the clock's end.
-fn capped(n: u64) -> u32
-    ensures { λ r. ⌜ r ≡ min n clockEnd ⌝ }
+fn at_most_end(n: u64) -> Ticks
+    ensures { λ r. ⌜ r .0 ≡ min n clockEnd ⌝ }
 {
     if (Ticks::END as u64) < n {
-        return Ticks::END;
+        return Ticks(Ticks::END);
     }
-    n as u32
+    Ticks(n as u32)
 }
 
 // How many ticks two numbers that move by g and by h stay from lo to hi apart. They are known to w (`Known`).
-pub(crate) fn stay(x: u64, y: u64, w: u64, g: u64, h: u64, lo: u64, hi: u64) -> u32
+pub(crate) fn stay(x: u64, y: u64, w: u64, g: u64, h: u64, lo: u64, hi: u64) -> Ticks
     requires { ⌜ Asked askedMost x y w g lo hi ⌝ }
     requires { ⌜ Asked askedMost x y w h lo hi ⌝ }
-    ensures { λ r. ⌜ Stays x y w g h lo hi r ⌝ }
+    ensures { λ r. ⌜ Stays x y w g h lo hi (r .0) ⌝ }
 {
     if g < h {
         return gaining(y, x + w, w, h - g, lo, hi);
@@ -29,43 +29,43 @@ pub(crate) fn stay(x: u64, y: u64, w: u64, g: u64, h: u64, lo: u64, hi: u64) -> 
 }
 
 // The first number gains v on the second in each tick.
-fn gaining(x: u64, y: u64, w: u64, v: u64, lo: u64, hi: u64) -> u32
+fn gaining(x: u64, y: u64, w: u64, v: u64, lo: u64, hi: u64) -> Ticks
     requires { ⌜ Asked sumMost x y w v lo hi ⌝ }
-    ensures { λ r. ⌜ Stays x y w v 0 lo hi r ⌝ }
+    ensures { λ r. ⌜ Stays x y w v 0 lo hi (r .0) ⌝ }
 {
     let first = x + v;
     if y > first + hi {
-        return 0;
+        return Ticks(0);
     }
     if lo == 0 {
-        return ahead(x, y, w, v, lo, hi);
+        return leading(x, y, w, v, lo, hi);
     }
     if y + lo <= first {
-        return ahead(x, y, w, v, lo, hi);
+        return leading(x, y, w, v, lo, hi);
     }
     if y < first + w + lo {
-        return 0;
+        return Ticks(0);
     }
     if v == 0 {
-        return Ticks::END;
+        return Ticks(Ticks::END);
     }
-    capped((y - w - lo - x) / v)
+    at_most_end((y - w - lo - x) / v)
 }
 
 // The same where the first is ahead, or may be anywhere.
-fn ahead(x: u64, y: u64, w: u64, v: u64, lo: u64, hi: u64) -> u32
+fn leading(x: u64, y: u64, w: u64, v: u64, lo: u64, hi: u64) -> Ticks
     requires { ⌜ Asked sumMost x y w v lo hi ⌝ }
     requires { ⌜ y ≤ x + v + hi ⌝ }
     requires { ⌜ (lo ≡ 0) ⊎ (y + lo ≤ x + v) ⌝ }
-    ensures { λ r. ⌜ Stays x y w v 0 lo hi r ⌝ }
+    ensures { λ r. ⌜ Stays x y w v 0 lo hi (r .0) ⌝ }
 {
     if y + hi < x + v + w {
-        return 0;
+        return Ticks(0);
     }
     if v == 0 {
-        return Ticks::END;
+        return Ticks(Ticks::END);
     }
-    capped((y + hi - w - x) / v)
+    at_most_end((y + hi - w - x) / v)
 }
 
 // The greatest number that divides both, by Euclid.
@@ -86,10 +86,10 @@ fn divisor(a: u32, b: u32) -> u32
 // Two that go round l places from p and round k places from q: the clock's end if they never leave the range, else 0.
 // Modulo the greatest divisor g of l and k the first is always c ahead, and the second d: c + d is g, or both are 0. So
 // where the first is ahead, it is so by c to l - g + c, and the second by d to k - g + d.
-pub(crate) fn rounds(p: u32, q: u32, l: u32, k: u32, lo: u32, hi: u32) -> u32
+pub(crate) fn rounds(p: u32, q: u32, l: u32, k: u32, lo: u32, hi: u32) -> Ticks
     requires { ⌜ (0 < l) × (l ≤ coordinateLast + 1) ⌝ }
     requires { ⌜ (0 < k) × (k ≤ coordinateLast + 1) ⌝ }
-    ensures { λ r. ⌜ Rounds p q l k lo hi r ⌝ }
+    ensures { λ r. ⌜ Rounds p q l k lo hi (r .0) ⌝ }
 {
     let g = divisor(l, k);
     let a = p % g;
@@ -104,22 +104,40 @@ pub(crate) fn rounds(p: u32, q: u32, l: u32, k: u32, lo: u32, hi: u32) -> u32
 }
 
 // The clock's end if the numbers from c to c + v and from d to d + w are all in the range, else 0.
-fn ends(c: u32, v: u32, d: u32, w: u32, lo: u32, hi: u32) -> u32
+fn ends(c: u32, v: u32, d: u32, w: u32, lo: u32, hi: u32) -> Ticks
     requires { ⌜ (c ≤ coordinateLast + 1) × (v ≤ coordinateLast) ⌝ }
     requires { ⌜ (d ≤ coordinateLast + 1) × (w ≤ coordinateLast) ⌝ }
-    ensures { λ r. ⌜ Ends c v d w lo hi r ⌝ }
+    ensures { λ r. ⌜ Covers c v d w lo hi (r .0) ⌝ }
 {
     if c < lo {
-        return 0;
+        return Ticks(0);
     }
     if d < lo {
-        return 0;
+        return Ticks(0);
     }
     if hi < v + c {
-        return 0;
+        return Ticks(0);
     }
     if hi < w + d {
-        return 0;
+        return Ticks(0);
     }
-    Ticks::END
+    Ticks(Ticks::END)
+}
+
+pub(crate) fn smaller(a: u32, b: u32) -> u32
+    ensures { λ r. ⌜ r ≡ min a b ⌝ }
+{
+    if a <= b {
+        return a;
+    }
+    b
+}
+
+pub(crate) fn greater(a: u32, b: u32) -> u32
+    ensures { λ r. ⌜ r ≡ max a b ⌝ }
+{
+    if a <= b {
+        return b;
+    }
+    a
 }

@@ -30,7 +30,7 @@ pub struct Staged {
 
 impl Staged {
     // The most records of a tick, and their bytes.
-    pub const MOST: usize = 48;
+    pub const MOST: usize = 64;
 
     pub const BYTES: usize = Staged::MOST * Record::WIDTH;
 }
@@ -111,7 +111,7 @@ fn stage_point(
     n + 1
 }
 
-// The record of a change of mode, if its action cell is not 0. Between equal modes it always is.
+// The record of a change of mode, if its action cell is not 0. Between equal modes it is always 0.
 pub(crate) fn stage_change(
     stage: &mut [u8],
     n: usize,

@@ -19,9 +19,11 @@ use Rattle.board.specs.declared.call.Advanced.{Advanced}
 use Rattle.board.specs.declared.call.Advanced.the-variants as advance
 use Rattle.board.specs.declared.call.Call.{Call}
 use Rattle.board.specs.declared.call.Call.the-variants as call
-use Rattle.board.specs.Call.{Reply, refused, answered, advancedSaid, saysOf, runCount, gridstep, does, world}
-use Rattle.board.specs.Row.{callAt, numbersOf, rowDoes}
+use Rattle.board.specs.declared.call.Pairs.{Pairs}
+use Rattle.board.specs.Call.{Reply, refused, answered, advancedSaid, pairNumbers, masterDoes, saysOf, makesOf, runCount, gridstep, does, world, Gives}
+use Rattle.board.specs.Row.{plainAt, numbersOf, rowDoes}
 use Rattle.board.specs.Lists.{cutUp}
+use Rattle.board.proofs.call.Enough.{pairsOf, pairs-own, pairs-enough, master-does}
 use Rattle.board.proofs.row.Replies.{replyIn}
 use Rattle.board.proofs.lists.Answers.{answer-told}
 use Rattle.board.proofs.lists.Replayed.{Step, Trace, nothing, then, Demand3, demand-3, gives-step, advance-said}
@@ -32,6 +34,7 @@ use Rattle.firmware.specs.Door.{RowGives}
 use Rattle.firmware.proofs.Numbering.{result-numbered, gives-as}
 use Rattle.firmware.proofs.Lent.{promised}
 use Rattle.firmware.proofs.door.gridstep_call.Reads as door-says
+use Rattle.firmware.proofs.door.gridstep_master.Reads as master-says
 
 -- ---- the door, as its contract has it
 
@@ -58,23 +61,55 @@ abbrev Comes : Option Call → World Board → List ℕ → World Board → Type
 Comes o w numbers v = (numbers ≡ numbersOf (rowDoes o w .answer)) × (v ≡ rowDoes o w .left)
 
 -- the door does what the row says
-opened-is : (zs : List ℤ) (w : World Board) {numbers : List ℕ} {v : World Board} → Opened zs w numbers v → Comes (callAt zs) w numbers v
+opened-is : (zs : List ℤ) (w : World Board) {numbers : List ℕ} {v : World Board} → Opened zs w numbers v → Comes (plainAt zs) w numbers v
 opened-is zs w d =
-    let g : RowGives (rowDoes (callAt zs) w) (d .replied) (now (d .exit)) =
-    subst (λ (l : List ℕ). RowGives (rowDoes (callAt zs) (world (w .board) l)) (d .replied) (now (d .exit))) (d .log-in) (d .learnt) in
+    let g : RowGives (rowDoes (plainAt zs) w) (d .replied) (now (d .exit)) =
+    subst (λ (l : List ℕ). RowGives (rowDoes (plainAt zs) (world (w .board) l)) (d .replied) (now (d .exit))) (d .log-in) (d .learnt) in
     (d .numbers-are ∙ g .reply-is, d .left-is ∙ (λ i. world (g .board-is i) (g .log-is i)))
 
 -- a row that is a call: the numbers are those of its answer, the board and the log those that it leaves
-pub door-does : (zs : List ℤ) (w : World Board) {c : Call} {numbers : List ℕ} {v : World Board} → callAt zs ≡ some c → Opened zs w numbers v
+pub door-does : (zs : List ℤ) (w : World Board) {c : Call} {numbers : List ℕ} {v : World Board} → plainAt zs ≡ some c → Opened zs w numbers v
     → (numbers ≡ numbersOf (does c w .answer)) × (v ≡ does c w .left)
 unfolding rowDoes
 door-does zs w {numbers = numbers} {v = v} e d = subst (λ (o : Option Call). Comes o w numbers v) e (opened-is zs w d)
 
 -- a row that is no call: it is refused 9, the board and the log equal to before
-pub door-refuses : (zs : List ℤ) (w : World Board) {numbers : List ℕ} {v : World Board} → callAt zs ≡ none → Opened zs w numbers v
+pub door-refuses : (zs : List ℤ) (w : World Board) {numbers : List ℕ} {v : World Board} → plainAt zs ≡ none → Opened zs w numbers v
     → (numbers ≡ numbersOf (refused 9)) × (v ≡ w)
 unfolding rowDoes
 door-refuses zs w {numbers} {v} e d = subst (λ (o : Option Call). Comes o w numbers v) e (opened-is zs w d)
+
+-- A master call with any numbers, as its contract has it. It takes no log.
+pub record Named (track master : ℤ) (zs : List ℤ) (w : World Board) (numbers : List ℕ) (v : World Board) : Type 0 where
+  pub lifetimes : Lfts 1
+  pub entry : RefT (List ℤ)
+  pub exit : RefT (List ℤ)
+  pub replied : Replied
+  pub learnt : master-says.Learnt lifetimes (w .board, (track, (master, (entry, tt)))) replied (w .board, (track, (master, (exit, tt))))
+  pub pairs-are : now entry ≡ zs
+  pub numbers-are : numbers ≡ replied .reply
+  pub left-is : v ≡ world (replied .board) (w .log)
+
+-- it does what the rule says of those numbers
+named-is : (track master : ℤ) (zs : List ℤ) (w : World Board) {numbers : List ℕ} {v : World Board} → Named track master zs w numbers v →
+    (numbers ≡ numbersOf (masterDoes track master zs w .answer)) × (v ≡ masterDoes track master zs w .left)
+named-is track master zs w d =
+    let g : RowGives (masterDoes track master zs w) (d .replied) (w .log) =
+    subst (λ (ys : List ℤ). RowGives (masterDoes track master ys w) (d .replied) (w .log)) (d .pairs-are) (d .learnt (w .log)) in
+    (d .numbers-are ∙ g .reply-is, d .left-is ∙ (λ i. world (g .board-is i) (g .log-is i)))
+
+-- whatever its numbers are, it is a call as a value: its reply is that call's answer, the board and the log those that it leaves
+pub every-master-gives : (track master : ℤ) (zs : List ℤ) (w : World Board) {numbers : List ℕ} {v : World Board} →
+    Named track master zs w numbers v → Gives (does (call.Master track master (pairsOf zs)) w) (replyIn numbers) (v .board) (v .log)
+every-master-gives track master zs w d =
+    let l = named-is track master zs w d in
+    let g = master-does track master zs (pairsOf zs) (pairs-enough zs) w in
+    let c = call.Master track master (pairsOf zs) in
+    record {
+      answer-is = ap replyIn (l .0) ∙ ap (λ (a : Reply). replyIn (numbersOf a)) (g .answer-is) ∙ answer-told c w ∙ refl;
+      board-is = ap (λ (v : World Board). v .board) (l .1) ∙ g .board-is;
+      log-is = ap (λ (v : World Board). v .log) (l .1) ∙ g .log-is;
+    }
 
 -- ---- lists of calls
 
@@ -97,9 +132,12 @@ pub data Lending : List Call → World Board → List Reply → World Board → 
       → promised call.Advance endingSaid (w .board) count (w .log) (v .board) ending (v .log) → a ≡ endingSaid ending → Lending cs v xs u
       → Lending (call.Advance count ∷ cs) w (a ∷ xs) u
   opened : (zs : List ℤ) {c : Call} {cs : List Call} {w v u : World Board} {numbers : List ℕ} {a : Reply} {xs : List Reply}
-      → callAt zs ≡ some c → Opened zs w numbers v → a ≡ replyIn numbers → Lending cs v xs u → Lending (c ∷ cs) w (a ∷ xs) u
+      → plainAt zs ≡ some c → Opened zs w numbers v → a ≡ replyIn numbers → Lending cs v xs u → Lending (c ∷ cs) w (a ∷ xs) u
+  named : (track master : ℤ) (zs : List ℤ) {cs : List Call} {w v u : World Board} {numbers : List ℕ} {a : Reply} {xs : List Reply}
+      → Named track master zs w numbers v → a ≡ replyIn numbers → Lending cs v xs u
+      → Lending (call.Master track master (pairsOf zs) ∷ cs) w (a ∷ xs) u
   uncalled : (zs : List ℤ) {cs : List Call} {w v u : World Board} {numbers : List ℕ} {xs : List Reply}
-      → callAt zs ≡ none → Opened zs w numbers v → Lending cs v xs u → Lending cs w xs u
+      → plainAt zs ≡ none → Opened zs w numbers v → Lending cs v xs u → Lending cs w xs u
   other : {c : Call} {cs : List Call} {w v u : World Board} {a : Reply} {xs : List Reply} → Step c w a v → Lending cs v xs u
       → Lending (c ∷ cs) w (a ∷ xs) u
 
@@ -118,6 +156,8 @@ lent-trace κs (opened zs {c = c} {w = w} e d q t) =
       log-is = ap (λ (v : World Board). v .log) (l .1);
     }))
     (lent-trace κs t)
+lent-trace κs (named track master zs {w = w} d q t) =
+    then (gives-step κs (call.Master track master (pairsOf zs)) w (gives-as q (every-master-gives track master zs w d))) (lent-trace κs t)
 lent-trace κs (uncalled zs {cs = cs} {w = w} {u = u} {xs = xs} e d t) =
     subst (λ (v : World Board). Trace cs v xs u) (door-refuses zs w e d .1) (lent-trace κs t)
 lent-trace κs (other s t) = then s (lent-trace κs t)
@@ -135,6 +175,7 @@ FromC ended = Unit {0}
 FromC (moded m i number p e t) = FromC t
 FromC (advanced count ending p e t) = FromC t
 FromC (opened zs e d q t) = FromC t
+FromC (named track master zs d q t) = FromC t
 FromC (uncalled zs e d t) = FromC t
 FromC (other s t) = ⊥
 
@@ -144,7 +185,7 @@ Made cs w xs u = (t : Lending cs w xs u) × FromC t
 
 -- a row of each call
 abbrev Rowed : Call → Type 0
-Rowed c = (zs : List ℤ) × (callAt zs ≡ some c)
+Rowed c = (zs : List ℤ) × (plainAt zs ≡ some c)
 
 rowed : (i : ℤ) (c : Change) → Rowed (call.SetUp i c)
 rowed i (change.Start p) = (pos 2 ∷ i ∷ p ∷ [], refl)
@@ -155,13 +196,16 @@ rowed i (change.Direction d) = (pos 6 ∷ i ∷ d ∷ [], refl)
 rowed i (change.Action from to event) = (pos 9 ∷ i ∷ from ∷ to ∷ event ∷ [], refl)
 rowed i (change.Jump p) = (pos 10 ∷ i ∷ p ∷ [], refl)
 
+-- a list, lent
+abbrev lends : {A : Type 0} → List A → RefT (List A)
+lends l = record { ptr = (0, 0); name = 0; now = l }
+
 -- what the door can answer and leave is what its row does
-opens : (κs : Lfts 1) (zs : List ℤ) (c : Call) (w : World Board) → callAt zs ≡ some c → Opened zs w (numbersOf (does c w .answer)) (does c w .left)
+opens : (κs : Lfts 1) (zs : List ℤ) (c : Call) (w : World Board) → plainAt zs ≡ some c → Opened zs w (numbersOf (does c w .answer)) (does c w .left)
 unfolding rowDoes
 opens κs zs c w e =
     let d = does c w in
     let r : Replied = record { board = d .left .board; reply = numbersOf (d .answer) } in
-    let lends : List ℕ → RefT (List ℕ) = λ l. record { ptr = (0, 0); name = 0; now = l } in
     record {
       lifetimes = κs;
       entry = lends (w .log);
@@ -189,6 +233,30 @@ module _ (κs : Lfts 1) {cs : List Call} (w : World Board) {xs : List Reply} {u 
             (record { answer-is = s ∙ sym e; board-is = refl; log-is = refl }) (e ∙ sym s) (t .0),
         t .1,
       )
+
+  -- a master call with its own numbers
+  by-master : (track master : ℤ) (ps : Pairs) → Made cs (does (call.Master track master ps) w .left) xs u
+      → Made (call.Master track master ps ∷ cs) w (does (call.Master track master ps) w .answer ∷ xs) u
+  unfolding masterDoes runCount saysOf makesOf
+  by-master track master ps t =
+      let c = call.Master track master ps in
+      let d = does c w in
+      let zs = pairNumbers ps in
+      let n : Named track master zs w (numbersOf (d .answer)) (d .left) =
+      record {
+        lifetimes = κs;
+        entry = lends zs;
+        exit = lends zs;
+        replied = record { board = d .left .board; reply = numbersOf (d .answer) };
+        learnt = λ log.
+            let g = master-does track master zs ps (λ b t m. refl) (world (w .board) log) in
+            record { reply-is = ap numbersOf (sym (g .answer-is)); board-is = sym (g .board-is); log-is = sym (g .log-is) };
+        pairs-are = refl;
+        numbers-are = refl;
+        left-is = refl;
+      } in
+      subst (λ (qs : Pairs). Made (call.Master track master qs ∷ cs) w (d .answer ∷ xs) u) (pairs-own ps)
+      (named track master zs n (sym (answer-told c w)) (t .0), t .1)
 
 -- an advance's answer in numbers
 abbrev endingOf : Advanced → Ending
@@ -226,6 +294,7 @@ by-call κs call.Clear w t = by-door κs w (pos 16 ∷ [], refl) t
 by-call κs call.Clock w t = by-door κs w (pos 17 ∷ [], refl) t
 by-call κs (call.Track i) w t = by-door κs w (pos 18 ∷ i ∷ [], refl) t
 by-call κs (call.Point i p) w t = by-door κs w (pos 19 ∷ i ∷ p ∷ [], refl) t
+by-call κs (call.Master track master ps) w t = by-master κs w track master ps t
 by-call κs (call.PointCount i from to) w t = by-door κs w (pos 20 ∷ i ∷ from ∷ to ∷ [], refl) t
 
 -- every list of calls, the mode calls and advances over the lent board and the others through the door: no contract contradicts another

@@ -4,11 +4,11 @@ use Rattle.board.specs.Points.{pointMost}
 
 -- a track
 abbrev pub trackBytes : ℕ
-trackBytes = 48
+trackBytes = 80
 
 -- the table of points of a board: behind the tracks and the word of those present
 abbrev pub pointsAt : ℕ
-pointsAt = 776
+pointsAt = 1288
 
 -- a row of numbers of the table
 abbrev pub rowBytes : ℕ

@@ -1,5 +1,6 @@
-// One door for every call and query, by its row of numbers, and for an encoded list of them.
+// One door for every call and query but master by its row of numbers, one for master, and one for an encoded list of calls.
 use board::Board;
+use board::apply::outcome;
 use board::lists::run_calls;
 use board::row::REPLY_WIDTH;
 use board::row::answer;
@@ -9,7 +10,7 @@ ghost use mathlib.Core.Path.{_≡_};
 ghost use Rattle.board.specs.Call.{world};
 ghost use Rattle.board.specs.Row.{callOf, rowDoes};
 ghost use Rattle.board.specs.Lists.{Executed};
-ghost use Rattle.firmware.specs.Door.{RowGives};
+ghost use Rattle.firmware.specs.Door.{RowGives, MasterGives};
 
 // The board after a call, and the numbers of its reply.
 #[repr(C)]
@@ -39,6 +40,19 @@ pub extern "C" fn gridstep_call(
     let track = r.track;
     let board = r.board;
     let reply = reply_row(told, track);
+    Replied { board, reply }
+}
+
+// A master call with any number of thresholds, each with its event behind it; a set-up call, so it takes no log.
+#[no_mangle]
+pub extern "C" fn gridstep_master(b: Board, track: i64, master: i64, pairs: &[i64]) -> Replied
+    ensures { λ r. ⌜ MasterGives track master (now (pairs .entry)) b r ⌝ }
+{
+    let r = outcome(b.set_master(track, master, pairs));
+    let told = r.told;
+    let shown = r.track;
+    let board = r.board;
+    let reply = reply_row(told, shown);
     Replied { board, reply }
 }
 

@@ -7,7 +7,7 @@ use lib.Dec.{leb, eqb}
 use lib.IntN.{ℤ, pos}
 use lib.ListN.{length, take, getD, replicate}
 use Rattle.board.specs.declared.call.Call.{Call}
-use Rattle.board.specs.Row.{callAt}
+use Rattle.board.specs.Row.{plainAt}
 use Rattle.script.specs.Bytes.{lf, comma}
 use Rattle.script.specs.Lines.{ahead, lineMost}
 use Rattle.script.specs.declared.number.Number.{Number}
@@ -42,7 +42,7 @@ numbersOf (suc k) (f ∷ fs) = aheadOf (numberOf f) (numbersOf k fs)
 
 -- the call of a code and its numbers, if they are numbers
 abbrev pub rowCall : ℕ → Option (List ℤ) → Option Call
-rowCall c (some zs) = callAt (pos c ∷ zs)
+rowCall c (some zs) = plainAt (pos c ∷ zs)
 rowCall c none = none
 
 -- a word, and the numbers that it takes

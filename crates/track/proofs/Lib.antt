@@ -1,5 +1,6 @@
 pub mod Tests
 pub mod Checks
+pub mod Follows
 mod Signs
 pub mod Numbers
 mod Cycle

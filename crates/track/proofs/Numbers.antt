@@ -1,7 +1,7 @@
 -- The laws of the numbers of a call: what was read is in its range, and reading is inverse to writing.
 use mathlib.Core.Path.{_≡_, refl, sym, ap, subst, _∙_}
 use mathlib.Core.Bool.{Bool, true, false, cond, _&&_}
-use Prim.Native.Nat.{ℕ, suc, _+_, _-_, _<_, _≤_}
+use Prim.Native.Nat.{ℕ, suc, _+_, _-_, _<_, _≤_, min}
 use native.Mathlib.Omega.{arith}
 use borrow.Author.Tests.{ltb-true, ltb-false, leb-true, leb-false, le-ltb, le-leb, lt-leb}
 use lib.Dec.{ltb, leb}
@@ -13,7 +13,7 @@ use mir.Facts.{toZ-ofZ}
 use Rattle.track.proofs.Signs.{sub-yes, sub-no}
 use Rattle.track.proofs.Tests.{both}
 use Rattle.track.specs.Rule.{coordinateLast}
-use Rattle.track.specs.Number.{naturalOf, coordinateOf, coordinateAt, within, valueOf, clampedOf, onNatural, onPlace}
+use Rattle.track.specs.Number.{naturalOf, cappedOf, coordinateOf, coordinateAt, within, valueOf, clampedOf, onNatural, onPlace}
 use Rattle.track.specs.declared.Coordinate.{Coordinate}
 use Rattle.track.specs.declared.number.Natural.{Natural}
 use Rattle.track.specs.declared.number.Natural.the-variants as natural
@@ -45,6 +45,15 @@ natural-in n least most e =
 pub natural-of : (k least most : ℕ) → least ≤ k → k ≤ most → naturalOf (pos k) least most ≡ natural.In k
 unfolding naturalOf
 natural-of k least most h l = simp (le-leb _ _ l, le-leb _ _ h)
+
+-- a number brought down to most is not negative, and that number or most
+pub capped-in : (n : ℤ) (most : ℕ) {k : ℕ} → cappedOf n most ≡ natural.In k → (j : ℕ) × (n ≡ pos j) × (k ≡ min j most)
+unfolding cappedOf In?
+capped-in n most {k} e = subst (λ (p : Natural). In? p (λ k. (j : ℕ) × (n ≡ pos j) × (k ≡ min j most))) e (go n)
+  where
+    go : (n : ℤ) → In? (cappedOf n most) (λ k. (j : ℕ) × (n ≡ pos j) × (k ≡ min j most))
+    go (pos j) = (j, refl, refl)
+    go (negsuc j) = tt
 
 -- ---- coordinates and positions are inverse
 

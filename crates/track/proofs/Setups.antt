@@ -22,16 +22,20 @@ use Rattle.track.specs.Number.{naturalOf, coordinateOf, within, onNatura
 use Rattle.track.specs.Setup.{refused, setTo, turned, startSet, endSet, loopsSet, repeatSet, directionSet, actionSet, jumpTo, setBy, permits, changedBy}
 use Rattle.track.proofs.Tests.{cond-cases}
 use Rattle.track.proofs.Checks.{events-of}
+use Rattle.track.proofs.Follows.{SameFollower, same-follower, moved-follower}
+use Rattle.track.specs.Follow.{upToZero, zerosTest, pairsTest, Follower}
+use Rattle.track.specs.declared.Ticks.{Ticks}
 use Rattle.track.proofs.Numbers.{natural-in, within-in}
 use Rattle.track.proofs.Arrivals.{moved-valid}
 
--- u is t after a set-up change: valid, in its bounds and its mode, with no more passes
+-- u is t after a set-up change: valid, in its bounds and its mode, with no more passes, a follower as it was
 pub record Keeps (t u : Track) : Type 0 where
   pub valid : Valid u
   pub min : u .min ≡ t .min
   pub max : u .max ≡ t .max
   pub mode : u .mode ≡ t .mode
   pub passes : u .passes .0 ≤ t .passes .0
+  pub follower : SameFollower t u
 
 -- a new track between bounds in order is valid
 pub new-valid : (a b : Coordinate) → a .0 < b .0 → b .0 ≤ 2000000 → Valid (newTrack a b)
@@ -48,9 +52,14 @@ new-valid a b h l =
           record { number = refl; event = events-of (replicate cellCount 0) refl; stopped = refl; playing = refl; paused = refl; waiting = refl };
     }
 
+-- and it follows none
+pub new-follower : (a b : Coordinate) (clock : Ticks) → Follower (newTrack a b) clock
+unfolding newTrack upToZero pairsTest zerosTest
+new-follower a b clock = record { thresholds = refl; events = refl; pairs = refl; band = omega arith; start = λ z. refl }
+
 module _ (t : Track) (v : Valid t) where
   same : Keeps t t
-  same = record { valid = v; min = refl; max = refl; mode = refl; passes = omega arith }
+  same = record { valid = v; min = refl; max = refl; mode = refl; passes = omega arith; follower = same-follower t }
 
 -- what holds of the changed track holds where the number or position is in its range
 on-natural : (P : Track → Type 0) (t : Track) (n : ℤ) (least most : ℕ) (f : ℕ → Changed) → P t →
@@ -90,8 +99,16 @@ set-cells l a b e ha hb he n d =
 
 module _ (t : Track) (v : Valid t) where
   -- a span set anew, rewound
-  spanned : (u : Track) → Valid (rewound u) → u .min ≡ t .min → u .max ≡ t .max → u .mode ≡ t .mode → Keeps t (rewound u)
-  spanned u w a b m = record { valid = w; min = a; max = b; mode = m; passes = omega arith }
+  spanned : (u : Track) → Valid (rewound u) → u .min ≡ t .min → u .max ≡ t .max → u .mode ≡ t .mode → SameFollower t (rewound u) →
+      Keeps t (rewound u)
+  spanned u w a b m f = record { valid = w; min = a; max = b; mode = m; passes = omega arith; follower = f }
+
+  -- a span, a loop count, a repeat flag or a direction does not make another follower
+  set-follower : (start end : Coordinate) (loops repeat direction : ℕ) → SameFollower t (setTo t start end loops repeat direction)
+  set-follower start end loops repeat direction = record { master = refl; band = refl; thresholds = refl; events = refl }
+
+  rewound-follower : (start end : Coordinate) (loops repeat direction : ℕ) → SameFollower t (rewound (setTo t start end loops repeat direction))
+  rewound-follower start end loops repeat direction = record { master = refl; band = refl; thresholds = refl; events = refl }
 
   rewound-valid : (start end : Coordinate) (direction : ℕ) → direction ≤ BACKWARD → t .min .0 ≤ start .0 → start .0 < end .0 →
       end .0 ≤ t .max .0 → Valid (rewound (setTo t start end (t .loops) (t .repeat) direction))
@@ -114,7 +131,8 @@ module _ (t : Track) (v : Valid t) where
       on-place (Keeps t) t (t .min .0) (t .max .0) (coordinateOf p) _ (same t v)
       (λ c low high. cond-cases (λ (r : Changed). Keeps t (r .track)) (ltb (c .0) (t .end .0))
       (λ e. spanned (setTo t c (t .end) (t .loops) (t .repeat) (t .direction))
-      (rewound-valid c (t .end) (t .direction) (v .direction) low (ltb-true _ _ e) (omega arith)) refl refl refl) (λ _. same t v))
+      (rewound-valid c (t .end) (t .direction) (v .direction) low (ltb-true _ _ e) (omega arith)) refl refl refl (rewound-follower c (t .end) (t .loops) (t .repeat) (t .direction)))
+      (λ _. same t v))
 
   end-keeps : (p : ℤ) → Keeps t (endSet t p .track)
   unfolding endSet
@@ -122,7 +140,8 @@ module _ (t : Track) (v : Valid t) where
       on-place (Keeps t) t (t .min .0) (t .max .0) (coordinateOf p) _ (same t v)
       (λ c low high. cond-cases (λ (r : Changed). Keeps t (r .track)) (ltb (t .start .0) (c .0))
       (λ e. spanned (setTo t (t .start) c (t .loops) (t .repeat) (t .direction))
-      (rewound-valid (t .start) c (t .direction) (v .direction) (omega arith) (ltb-true _ _ e) high) refl refl refl) (λ _. same t v))
+      (rewound-valid (t .start) c (t .direction) (v .direction) (omega arith) (ltb-true _ _ e) high) refl refl refl
+      (rewound-follower (t .start) c (t .loops) (t .repeat) (t .direction))) (λ _. same t v))
 
   -- loops, repeat and direction leave the walk where it is
   set-keeps : (loops repeat direction : ℕ) → (1 ≤ loops) × (loops ≤ loopsMost) → repeat ≤ REPEATING → direction ≤ BACKWARD →
@@ -143,6 +162,7 @@ module _ (t : Track) (v : Valid t) where
         max = refl;
         mode = refl;
         passes = omega arith;
+        follower = set-follower (t .start) (t .end) loops repeat direction;
       }
 
   loops-keeps : (n : ℤ) → Keeps t (loopsSet t n .track)
@@ -158,7 +178,8 @@ module _ (t : Track) (v : Valid t) where
   direction-keeps d =
       on-natural (Keeps t) t d 0 1 _ (same t v)
       (λ k low high. cond-cases (Keeps t) (eqb (t .mode) STOPPED)
-      (λ _. spanned (turned t k) (rewound-valid (t .start) (t .end) k high (omega arith) (omega arith) (omega arith)) refl refl refl)
+      (λ _. spanned (turned t k) (rewound-valid (t .start) (t .end) k high (omega arith) (omega arith) (omega arith)) refl refl refl
+      (rewound-follower (t .start) (t .end) (t .loops) (t .repeat) k))
       (λ _. set-keeps (t .loops) (t .repeat) k (v .loops) (v .repeat) high))
 
   action-keeps : (from to event : ℤ) → Keeps t (actionSet t from to event .track)
@@ -183,13 +204,14 @@ module _ (t : Track) (v : Valid t) where
         max = refl;
         mode = refl;
         passes = omega arith;
+        follower = record { master = refl; band = refl; thresholds = refl; events = refl };
       }))))
 
   jump-keeps : (p : ℤ) → Keeps t (jumpTo t p .track)
   unfolding jumpTo
   jump-keeps p =
       on-place (Keeps t) t (t .start .0) (t .end .0) (coordinateOf p) _ (same t v)
-      (λ c low high. record { valid = moved-valid t v (t .mode) (c .0) (t .passes .0) DUE (v .mode) (omega arith) (low, high); min = refl; max = refl; mode = refl; passes = omega arith })
+      (λ c low high. record { valid = moved-valid t v (t .mode) (c .0) (t .passes .0) DUE (v .mode) (omega arith) (low, high); min = refl; max = refl; mode = refl; passes = omega arith; follower = moved-follower t (t .mode) (c .0) (t .passes .0) DUE })
 
   -- no set-up change breaks a rule of a track, moves its bounds or its mode, or adds a pass
   pub changed-keeps : (c : Change) → Keeps t (changedBy t c .track)

@@ -1,7 +1,7 @@
 -- What the tests of `number` tell of an integer z, by its sign.
 use mathlib.Core.Path.{_≡_, refl, sym, ap, subst, _∙_}
 use mathlib.Core.Bool.{Bool, true, false, cond, _&&_}
-use Prim.Native.Nat.{ℕ, suc, _-_, _^_, _<_, _≤_}
+use Prim.Native.Nat.{ℕ, suc, _-_, _^_, _<_, _≤_, min}
 use native.Mathlib.Omega.{arith}
 use borrow.Author.Tests.{ltb-true, ltb-false, lt-ltb, le-ltb, le-leb, lt-leb}
 use lib.Dec.{T, ltb, leb, leb→le}
@@ -9,7 +9,7 @@ use lib.IntN.{ℤ, pos, negsuc, natAbs, subℕ, _+ℤ_, _-ℤ_}
 use lib.Signed.{ltZ, nonNeg, mag}
 use mir.Syntax.{w64}
 use mir.Val.{SFits}
-use Rattle.track.specs.Number.{naturalOf, coordinateOf, within, clampedOf}
+use Rattle.track.specs.Number.{naturalOf, cappedOf, coordinateOf, within, clampedOf}
 use Rattle.track.specs.declared.Coordinate.{Coordinate}
 use Rattle.track.specs.declared.number.Natural.the-variants as natural
 use Rattle.track.specs.declared.number.Place.{Place}
@@ -52,6 +52,27 @@ module _ (z : ℤ) (least most : ℕ) (t : T (nonNeg z)) where
 
   pub natural-within : natAbs z ≤ most → least ≤ natAbs z → natural.In (natAbs z) ≡ naturalOf z least most
   natural-within h l = simp (le-leb (natAbs z) most h, le-leb least (natAbs z) l) at natural-is
+
+-- ---- `capped`
+pub capped-low : (z : ℤ) (most : ℕ) → ltZ z (pos 0) ≡ true → natural.Outside ≡ cappedOf z most
+unfolding cappedOf
+capped-low (pos k) most e = let h = ltb-true k 0 e in absurd (omega arith)
+capped-low (negsuc k) most e = refl
+
+module _ (z : ℤ) (most : ℕ) (t : T (nonNeg z)) where
+  capped-is : natural.In (min (natAbs z) most) ≡ cappedOf z most
+  unfolding cappedOf
+  capped-is = at z t
+    where
+      at : (z : ℤ) → T (nonNeg z) → natural.In (min (natAbs z) most) ≡ cappedOf z most
+      at (pos k) t = refl
+      at (negsuc k) t = absurd t
+
+  pub capped-above : most < natAbs z → natural.In most ≡ cappedOf z most
+  capped-above h = let e : most ≡ min (natAbs z) most = omega arith in ap natural.In e ∙ capped-is
+
+  pub capped-within : natAbs z ≤ most → natural.In (natAbs z) ≡ cappedOf z most
+  capped-within h = let e : natAbs z ≡ min (natAbs z) most = omega arith in ap natural.In e ∙ capped-is
 
 -- ---- `Coordinate::of` and `clamped`: z is from -1,000,000 to 1,000,000, or below, or above
 abbrev pub Low : ℤ → Bool

@@ -4,3 +4,4 @@ pub mod Grid
 pub mod Walk
 pub mod Leap
 pub mod Setup
+pub mod Follow

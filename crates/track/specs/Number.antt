@@ -1,5 +1,5 @@
 -- The numbers of a call, integers of either sign, and what a track keeps of them: `pos k` is k, `negsuc k` is -(k + 1).
-use Prim.Native.Nat.{ℕ, suc, _+_, _-_}
+use Prim.Native.Nat.{ℕ, suc, _+_, _-_, min}
 use mathlib.Core.Bool.{cond, _&&_}
 use lib.Dec.{ltb, leb}
 use lib.IntN.{ℤ, pos, negsuc, _-ℤ_}
@@ -13,6 +13,11 @@ use Rattle.track.specs.declared.Coordinate.{Coordinate}
 unfoldable pub naturalOf : ℤ → ℕ → ℕ → Natural
 naturalOf (pos k) least most = cond (leb k most && leb least k) (natural.In k) natural.Outside
 naturalOf (negsuc k) least most = natural.Outside
+
+-- the number brought down to most, if it is not negative
+unfoldable pub cappedOf : ℤ → ℕ → Natural
+cappedOf (pos k) most = natural.In (min k most)
+cappedOf (negsuc k) most = natural.Outside
 
 -- the coordinate of the position n, n + 1,000,000, if n is from -1,000,000 to 1,000,000
 unfoldable pub coordinateOf : ℤ → Place

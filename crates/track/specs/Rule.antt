@@ -57,6 +57,16 @@ cellCount = 16
 abbrev pub cellMost : ℕ
 cellMost = 255
 
+-- the number of thresholds of a follower at most, the greatest threshold (02, 2.1), and the greatest event of a point or a threshold
+abbrev pub thresholdCount : ℕ
+thresholdCount = 4
+
+abbrev pub thresholdMost : ℕ
+thresholdMost = 1000000
+
+abbrev pub eventMost : ℕ
+eventMost = 255
+
 -- the coordinate of the position 1,000,000
 abbrev pub coordinateLast : ℕ
 coordinateLast = 2000000
@@ -65,7 +75,7 @@ coordinateLast = 2000000
 abbrev pub clockEnd : ℕ
 clockEnd = 1000000000
 
--- A new track: start = min, end = max, forward, repeat off, loops 1, all actions 0, STOPPED, rewound.
+-- A new track: start = min, end = max, forward, repeat off, loops 1, all actions 0, STOPPED, rewound; it has no master.
 unfoldable pub newTrack : Coordinate → Coordinate → Track
 newTrack a b =
     record {
@@ -81,6 +91,10 @@ newTrack a b =
       repeat = 0;
       due = DUE;
       actions = replicate cellCount 0;
+      master = 0;
+      band = 0;
+      thresholds = replicate thresholdCount 0;
+      events = replicate thresholdCount 0;
     }
 
 -- The home position is start when forward, end when backward; the far position is the other.
@@ -106,6 +120,10 @@ moved t mode position passes due =
       repeat = t .repeat;
       due = due;
       actions = t .actions;
+      master = t .master;
+      band = t .band;
+      thresholds = t .thresholds;
+      events = t .events;
     }
 
 -- rewound: position home, due set, passes 0

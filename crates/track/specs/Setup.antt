@@ -36,6 +36,10 @@ setTo t start end loops repeat direction =
       repeat = repeat;
       due = t .due;
       actions = t .actions;
+      master = t .master;
+      band = t .band;
+      thresholds = t .thresholds;
+      events = t .events;
     }
 
 abbrev pub withAction : Track → ℕ → ℕ → Track
@@ -53,6 +57,10 @@ withAction t at event =
       repeat = t .repeat;
       due = t .due;
       actions = set (t .actions) at event;
+      master = t .master;
+      band = t .band;
+      thresholds = t .thresholds;
+      events = t .events;
     }
 
 -- STOPPED or PAUSED

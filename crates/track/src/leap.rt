@@ -10,7 +10,7 @@ ghost use Rattle.track.specs.Leap.{span, phase, place, next, leap, stopS
 
 impl Track {
     // The number of locations of the span.
-    pub(crate) fn span(self) -> u32
+    pub fn span(self) -> u32
         requires { ⌜ Valid self ⌝ }
         ensures { λ r. ⌜ r ≡ span self ⌝ }
     {
@@ -43,7 +43,7 @@ impl Track {
     }
 
     // How far from home the next step arrives.
-    pub(crate) fn next(self) -> u32
+    pub fn next(self) -> u32
         requires { ⌜ Valid self ⌝ }
         ensures { λ r. ⌜ r ≡ next self ⌝ }
     {

@@ -5,6 +5,7 @@ ghost use Rattle.track.specs.Rule.{newTrack, home, far, moved, rewound, 
 ghost use Prim.Native.Nat.{_≤_};
 
 mod check;
+pub mod follow;
 pub mod grid;
 mod leap;
 pub mod number;
@@ -41,6 +42,14 @@ pub struct Track {
     pub due: u8,
     // The event of a change from mode a to mode b stands at a * 4 + b; 0 means none.
     pub actions: [u8; Track::CELLS],
+    // The track that it follows; 0 where it follows none.
+    pub master: u8,
+    // The band held: 0 is none, k the k-th threshold.
+    pub band: u8,
+    // Strictly rising; 0 stands for none, and behind a 0 there are only 0.
+    pub thresholds: [u32; Track::THRESHOLDS],
+    // Beside each threshold its event; 0 beside none.
+    pub events: [u32; Track::THRESHOLDS],
 }
 
 impl Coordinate {
@@ -81,7 +90,15 @@ impl Track {
 
     pub const EVENT: u32 = 255;
 
-    // A new track: start = min, end = max, forward, repeat off, loops 1, all actions 0, STOPPED, rewound.
+    pub const THRESHOLDS: usize = 4;
+
+    // The numbers of as many pairs of a threshold and its event.
+    pub const PAIRED: usize = 2 * Track::THRESHOLDS;
+
+    // The greatest threshold.
+    pub const THRESHOLD: u32 = 1000000;
+
+    // A new track: start = min, end = max, forward, repeat off, loops 1, all actions 0, STOPPED, rewound, no master.
     pub fn new(min: Coordinate, max: Coordinate) -> Self
         ensures { λ r. ⌜ r ≡ newTrack min max ⌝ }
     {
@@ -98,6 +115,10 @@ impl Track {
             repeat: 0,
             due: Track::DUE,
             actions: [0u8; Track::CELLS],
+            master: 0,
+            band: 0,
+            thresholds: [0u32; Track::THRESHOLDS],
+            events: [0u32; Track::THRESHOLDS],
         }
     }
 

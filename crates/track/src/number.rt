@@ -1,7 +1,7 @@
 // The numbers of a call, from i64 to what a track keeps: only here are a call's signed numbers worked on.
 use crate::Coordinate;
 ghost use mathlib.Core.Path.{_≡_};
-ghost use Rattle.track.specs.Number.{naturalOf, coordinateOf, within, valueOf, clampedOf};
+ghost use Rattle.track.specs.Number.{naturalOf, cappedOf, coordinateOf, within, valueOf, clampedOf};
 
 // A number of a call that may lie outside its range.
 pub enum Natural {
@@ -31,6 +31,22 @@ pub fn in_range(n: i64, least: u32, most: u32) -> Natural
     if k < least {
         return Natural::Outside;
     }
+    Natural::In(k)
+}
+
+// The number, brought down to the most if it is above; outside if it is negative.
+pub fn capped(n: i64, most: u32) -> Natural
+    ensures { λ r. ⌜ r ≡ cappedOf n most ⌝ }
+{
+    if n < 0 {
+        return Natural::Outside;
+    }
+    let m = n as u64;
+    let high = most as u64;
+    if high < m {
+        return Natural::In(most);
+    }
+    let k = m as u32;
     Natural::In(k)
 }
 

@@ -53,6 +53,9 @@ impl Answer {
 
     // Line not in the grammar.
     pub const GRAMMAR: u8 = 9;
+
+    // Thresholds that do not rise, or more than four.
+    pub const RISING: u8 = 10;
 }
 
 // The answer to a change, and the track after it.

@@ -1,7 +1,7 @@
 //! Ratios of time in one run: the proved library against the leaping peer and the single-tick model.
 //! `speed` prints the table; `speed plot FILE` also draws time over ticks as SVG.
 
-use gridstep_tests::call::{Board, Call, Call::*};
+use gridstep_tests::call::{Board, Call, Call::*, Pairs};
 use gridstep_tests::library::Library;
 use gridstep_tests::model::Model;
 use gridstep_tests::peer::Peer;
@@ -13,6 +13,9 @@ const WHOLE: i64 = 1_000_000_000;
 /// How often library and peer take turns, and the times of each in one.
 const TURNS: u32 = 200;
 const TIMES: u32 = 30;
+/// Two cases whose times are compared: the second is to take at most twice the first.
+const IDLE: &str = "idle board, whole clock";
+const IN_STEP: &str = "follower in step, whole clock";
 
 fn set_up<B: Board>(calls: &[Call]) -> B {
     let mut board = B::fresh();
@@ -55,6 +58,20 @@ fn typical() -> Vec<Call> {
     tracks.chain(points).chain((0..4).map(Play)).collect()
 }
 
+/// Two tracks of 100 locations in step, 5 or 95 apart: a band that is never left.
+fn in_step() -> Vec<Call> {
+    let tracks = [Track(0, 0, 99), Track(1, 0, 99), Repeat(0, 1), Repeat(1, 1)];
+    let led = [Master(1, 0, Pairs::new(&[[1, 7], [96, 8]])), Play(0), Advance(5), Play(1), Advance(1)];
+    [&tracks[..], &led].concat()
+}
+
+/// A follower of 10 locations beside a master of 1,000: two records in each of the master's rounds.
+fn unequal_spans() -> Vec<Call> {
+    let tracks = [Track(0, 0, 999), Track(1, 0, 9), Repeat(0, 1), Repeat(1, 1)];
+    let led = [Master(1, 0, Pairs::new(&[[50, 5], [500, 6]])), Play(0), Play(1)];
+    [&tracks[..], &led].concat()
+}
+
 /// The least time of one round of calls, each round from the board as it is, in nanoseconds.
 fn least<B: Board + Clone>(board: &B, calls: &[Call], bytes: usize, rounds: u32, times: u32) -> f64 {
     let mut log = vec![0; bytes];
@@ -95,47 +112,19 @@ impl Case {
 }
 
 fn cases() -> Vec<Case> {
-    let whole = vec![Advance(WHOLE)];
-    let log = 65_536;
+    let case = |name, set_up, calls, rounds| Case { name, set_up, calls, bytes: 65_536, rounds };
+    let whole = |name, set_up, rounds| case(name, set_up, vec![Advance(WHOLE)], rounds);
     vec![
-        Case { name: "whole clock, three points", set_up: few_points(), calls: whole.clone(), bytes: log, rounds: 4 },
-        Case {
-            name: "ten records over 1,000 ticks",
-            set_up: ten_points(900),
-            calls: vec![Advance(1_000)],
-            bytes: log,
-            rounds: 50,
-        },
-        Case {
-            name: "ten records over the whole clock",
-            set_up: ten_points(900_000),
-            calls: whole.clone(),
-            bytes: log,
-            rounds: 50,
-        },
-        Case { name: "idle board, whole clock", set_up: vec![], calls: whole.clone(), bytes: log, rounds: 50 },
-        Case {
-            name: "two locations, whole clock",
-            set_up: two_locations(),
-            calls: whole.clone(),
-            bytes: log,
-            rounds: 50,
-        },
-        Case { name: "dense board until 4,096 records", set_up: dense(), calls: whole, bytes: log, rounds: 4 },
-        Case {
-            name: "100 advances of one tick",
-            set_up: typical(),
-            calls: vec![Advance(1); 100],
-            bytes: log,
-            rounds: 10,
-        },
-        Case {
-            name: "100 mode calls",
-            set_up: typical(),
-            calls: [[Pause(1), Resume(1)]; 50].concat(),
-            bytes: log,
-            rounds: 10,
-        },
+        whole("whole clock, three points", few_points(), 4),
+        case("ten records over 1,000 ticks", ten_points(900), vec![Advance(1_000)], 50),
+        whole("ten records over the whole clock", ten_points(900_000), 50),
+        whole(IDLE, vec![], 50),
+        whole("two locations, whole clock", two_locations(), 50),
+        whole(IN_STEP, in_step(), 50),
+        whole("follower, spans 10 and 1,000, until 4,096 records", unequal_spans(), 1),
+        whole("dense board until 4,096 records", dense(), 4),
+        case("100 advances of one tick", typical(), vec![Advance(1); 100], 10),
+        case("100 mode calls", typical(), [[Pause(1), Resume(1)]; 50].concat(), 10),
     ]
 }
 
@@ -150,10 +139,17 @@ fn series<B: Board + Clone>(name: &'static str, most: i64) -> Series {
 fn main() {
     println!("| Case | library, µs | peer, µs | ratio |");
     println!("|---|---|---|---|");
+    let (mut idle, mut in_step) = (0.0, 0.0);
     for case in cases() {
         let (library, peer) = case.times();
         println!("| {} | {:.2} | {:.2} | {:.2} |", case.name, library / 1e3, peer / 1e3, library / peer);
+        match case.name {
+            IDLE => idle = library,
+            IN_STEP => in_step = library,
+            _ => {}
+        }
     }
+    println!("\n{IN_STEP}: {:.2} times the idle board (goal: at most 2)", in_step / idle);
     let case = &cases()[0];
     let tick = least(&set_up::<Model>(&case.set_up), &[Advance(100_000)], case.bytes, 1, 9) / 1e5;
     let library = case.time::<Library>(60) / WHOLE as f64;

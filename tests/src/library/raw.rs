@@ -1,6 +1,6 @@
 //! The structs and functions that libfirmware.a exports; include/gridstep.h explains every field.
 
-use crate::call::{BIAS, track_of};
+use crate::call::{BIAS, REPLY_WIDTH, TRACK_WIDTH, track_of};
 use crate::model::Point;
 use crate::track;
 
@@ -19,6 +19,10 @@ pub struct Track {
     pub repeat: u8,
     pub due: u8,
     pub actions: [u8; 16],
+    pub master: u8,
+    pub band: u8,
+    pub thresholds: [u32; 4],
+    pub events: [u32; 4],
 }
 
 #[repr(C)]
@@ -50,7 +54,7 @@ pub struct Ending {
 #[derive(Clone, Copy)]
 pub struct Replied {
     pub board: Board,
-    pub reply: [u64; 28],
+    pub reply: [u64; REPLY_WIDTH],
 }
 
 /// A mode call: board, track, log and its length.
@@ -75,6 +79,13 @@ unsafe extern "C" {
         log: *mut u8,
         length: usize,
     ) -> Replied;
+    pub fn gridstep_master(
+        board: Board,
+        track: i64,
+        master: i64,
+        pairs: *const i64,
+        pairs_length: usize,
+    ) -> Replied;
     pub fn gridstep_run(
         calls: *const i64,
         calls_length: usize,
@@ -87,14 +98,17 @@ unsafe extern "C" {
 
 impl Track {
     /// The track's numbers in the order of its reply.
-    pub fn numbers(&self) -> [u64; 27] {
-        let mut numbers = [0; 27];
+    pub fn numbers(&self) -> [u64; TRACK_WIDTH] {
+        let mut numbers = [0; TRACK_WIDTH];
         let words = [self.min, self.max, self.start, self.end, self.position, self.passes];
         let bytes = [self.mode, self.direction, self.repeat, self.due];
         numbers[..6].copy_from_slice(&words.map(u64::from));
         numbers[6] = self.loops.into();
         numbers[7..11].copy_from_slice(&bytes.map(u64::from));
-        numbers[11..].copy_from_slice(&self.actions.map(u64::from));
+        numbers[11..27].copy_from_slice(&self.actions.map(u64::from));
+        numbers[27..29].copy_from_slice(&[self.master, self.band].map(u64::from));
+        numbers[29..33].copy_from_slice(&self.thresholds.map(u64::from));
+        numbers[33..].copy_from_slice(&self.events.map(u64::from));
         numbers
     }
 

@@ -1,12 +1,12 @@
 //! The peer's advance: single ticks where something is written or stops, one leap over what lies between.
 
-use super::{BIAS, CLOCK_END, GRID, Info, NONE, PLAYING, Peer, STOPPED, Track, WAITING, WIDTH};
+use super::{BIAS, CLOCK_END, GRID, Info, NONE, PLAYING, Peer, STOPPED, Track, WAITING, WIDTH, pair};
 use crate::call::Reply;
 use crate::model::TRACKS;
-use crate::record::{MODE_CHANGE, POINT, RECORD, REFUSED_COMMAND};
+use crate::record::{BAND, MODE_CHANGE, POINT, RECORD, REFUSED_COMMAND};
 
-/// The most records of a tick: 16 points, 16 mode changes, 16 commands.
-const TICK_MOST: usize = 48;
+/// The most records of a tick: 16 points, 16 mode changes, 16 commands, 16 bands.
+const TICK_MOST: usize = 64;
 
 /// Where records are written, and the clock that they carry.
 pub struct Out<'a> {
@@ -60,6 +60,17 @@ impl<'a> Out<'a> {
             new => self.enter(target, track, new),
         }
     }
+
+    /// A follower after the commands: its record, if it enters another band than the one held that is not none.
+    fn judge(&mut self, tracks: &mut [Track; TRACKS], number: usize) {
+        let master = tracks[usize::from(tracks[number].master & 15)];
+        let track = &mut tracks[number];
+        let band = pair::band(track, &master);
+        if band != track.band && band != 0 {
+            self.put(number, track, BAND, track.events[usize::from(band) - 1], track.master);
+        }
+        track.band = band;
+    }
 }
 
 impl Peer {
@@ -71,6 +82,16 @@ impl Peer {
         word & self.present
     }
 
+    /// The followers: no tick changes who they are.
+    fn led(&self) -> u16 {
+        let (mut word, mut led) = (self.present, 0);
+        while word != 0 {
+            led |= u16::from(self.tracks[word.trailing_zeros() as usize].follows()) << word.trailing_zeros();
+            word &= word - 1;
+        }
+        led
+    }
+
     /// The point at a key; event 0 says that there is none.
     fn info(&self, key: u32) -> Info {
         let slot = self.rank(key);
@@ -78,7 +99,7 @@ impl Peer {
     }
 
     /// One tick of the tracks, its records put into `bytes`: their number.
-    fn tick(&mut self, bytes: &mut [u8]) -> usize {
+    fn tick(&mut self, led: u16, bytes: &mut [u8]) -> usize {
         let mut out = Out::new(self.clock + 1, bytes);
         let mut reached = [Info::default(); TRACKS];
         let mut commands = 0;
@@ -99,15 +120,21 @@ impl Peer {
         for info in &reached[..commands] {
             out.command(&mut self.tracks, *info);
         }
+        let mut word = led;
+        while word != 0 {
+            out.judge(&mut self.tracks, word.trailing_zeros() as usize);
+            word &= word - 1;
+        }
         out.records
     }
 
     /// A tick whose records fit, written behind the held ones: their number; else nothing changes.
-    fn take(&mut self, log: &mut [u8]) -> Option<usize> {
+    fn take(&mut self, led: u16, log: &mut [u8]) -> Option<usize> {
         let held = self.held as usize;
         let room = log.len() / RECORD - held;
         let free = &mut log[held * RECORD..];
-        let records = if room >= TICK_MOST { self.tick(free) } else { self.take_narrow(&mut free[..room * RECORD])? };
+        let records =
+            if room >= TICK_MOST { self.tick(led, free) } else { self.take_narrow(led, &mut free[..room * RECORD])? };
         self.held += records as u64;
         self.clock += 1;
         Some(records)
@@ -115,10 +142,10 @@ impl Peer {
 
     /// The same where a tick's most might not fit: staged apart from the log.
     #[cold]
-    fn take_narrow(&mut self, free: &mut [u8]) -> Option<usize> {
+    fn take_narrow(&mut self, led: u16, free: &mut [u8]) -> Option<usize> {
         let before = self.tracks;
         let mut stage = [0; TICK_MOST * RECORD];
-        let records = self.tick(&mut stage);
+        let records = self.tick(led, &mut stage);
         let length = records * RECORD;
         if length > free.len() {
             self.tracks = before;
@@ -128,13 +155,19 @@ impl Peer {
         Some(records)
     }
 
-    /// The ticks, at most so many, in which no PLAYING track reaches a point or stops; they are leapt.
-    fn leap(&mut self, most: u32) -> u32 {
+    /// The ticks, at most so many, in which no PLAYING track reaches a point or stops and no band changes; they are leapt.
+    fn leap(&mut self, led: u16, most: u32) -> u32 {
         let playing = self.playing();
         let keys = &self.keys[..self.count];
         let mut ticks = u64::from(most);
         for number in members(playing) {
             ticks = ticks.min(self.tracks[number].quiet(number, keys));
+        }
+        let mut word = led;
+        while word != 0 {
+            let track = &self.tracks[word.trailing_zeros() as usize];
+            ticks = ticks.min(pair::steady(track, &self.tracks[usize::from(track.master & 15)]));
+            word &= word - 1;
         }
         let ticks = ticks as u32;
         if ticks > 0 {
@@ -146,6 +179,7 @@ impl Peer {
 
     /// A leap is looked for only after a tick without records, so that one tick costs no search.
     pub fn run(&mut self, count: u32, log: &mut [u8]) -> Reply {
+        let led = self.led();
         let mut taken = 0;
         let mut still = false;
         while taken < count {
@@ -153,11 +187,11 @@ impl Peer {
                 return Reply::ClockEnd(taken);
             }
             if still {
-                taken += self.leap((count - taken).min(CLOCK_END - self.clock));
+                taken += self.leap(led, (count - taken).min(CLOCK_END - self.clock));
                 still = false;
                 continue;
             }
-            match self.take(log) {
+            match self.take(led, log) {
                 Some(records) => still = records == 0,
                 None => return Reply::LogFull(taken),
             }

@@ -1,7 +1,7 @@
 //! A track of the peer: its walk counted in phases (distance from home), which are free of direction.
 
 use super::{BIAS, COORDINATES, STOPPED, WAITING, WIDTH};
-use crate::track;
+use crate::track::{self, DRIFT_MOST, THRESHOLDS};
 
 #[derive(Clone, Copy, Debug, Default, PartialEq, Eq)]
 pub struct Track {
@@ -18,6 +18,11 @@ pub struct Track {
     pub due: bool,
     /// old mode × 4 + new mode
     pub actions: [u8; 16],
+    pub master: u8,
+    pub band: u8,
+    /// strictly rising, then zeros
+    pub thresholds: [u32; THRESHOLDS],
+    pub events: [u8; THRESHOLDS],
 }
 
 impl Track {
@@ -73,13 +78,43 @@ impl Track {
             && self.actions[0] | self.actions[5] | self.actions[10] | self.actions[15] == 0
     }
 
+    /// Whether it follows none, and says so in every field: what most tracks do is asked at one go.
+    pub fn free(&self) -> bool {
+        let [a, b, c, d] = self.thresholds;
+        let events = u32::from_ne_bytes(self.events);
+        a | b | c | d | events | u32::from(self.master) | u32::from(self.band) == 0
+    }
+
+    pub fn follows(&self) -> bool {
+        self.thresholds[0] != 0
+    }
+
+    /// The thresholds that it has.
+    pub fn bands(&self) -> usize {
+        self.thresholds.iter().position(|&threshold| threshold == 0).unwrap_or(THRESHOLDS)
+    }
+
+    /// One pass over the pairs: each rises above the one before, or is 0 like all behind it. Then the band.
+    pub fn pairs_sound(&self, clock: u32) -> bool {
+        let (mut before, mut ended) = (0, false);
+        for (&threshold, &event) in self.thresholds.iter().zip(&self.events) {
+            ended |= threshold == 0;
+            let rises = before < threshold && i64::from(threshold) <= DRIFT_MOST && event != 0;
+            if if ended { threshold != 0 || event != 0 } else { !rises } {
+                return false;
+            }
+            before = threshold;
+        }
+        usize::from(self.band) <= if clock == 0 { 0 } else { self.bands() }
+    }
+
     /// The number of locations in the span.
-    fn span(&self) -> u32 {
+    pub fn span(&self) -> u32 {
         self.end - self.start + 1
     }
 
     /// The phase of the next arrival.
-    fn phase(&self) -> u32 {
+    pub fn phase(&self) -> u32 {
         let next = self.arrival();
         if self.backward { self.end - next } else { next - self.start }
     }
@@ -152,6 +187,10 @@ impl Track {
             repeat: self.repeat.into(),
             due: self.due.into(),
             actions: std::array::from_fn(|from| std::array::from_fn(|to| cell(from, to))),
+            master: self.master.into(),
+            band: self.band.into(),
+            thresholds: self.thresholds.map(i64::from),
+            events: self.events.map(i64::from),
         }
     }
 }

@@ -2,7 +2,7 @@
 
 use super::{LOG_RECORDS, line_of};
 use crate::call::Call;
-use crate::gen::{PROFILES, Rng, long};
+use crate::gen::{PROFILES, Profile, Rng, long};
 use crate::model::CLOCK_END;
 use crate::record::RECORD;
 
@@ -39,7 +39,8 @@ pub const FULL_LOG: &[u8] =
 /// A script of about so many lines.
 pub fn script(kind: Kind, seed: u64, lines: i64) -> Vec<u8> {
     let mut rng = Rng(seed);
-    let profile = PROFILES[seed as usize % PROFILES.len()];
+    // Without master lines the profile of followers has nothing of its own.
+    let profile = *PROFILES.iter().filter(|&&p| p != Profile::Followers).cycle().nth(seed as usize).expect("a profile");
     let calls = || long(profile, seed, lines, LOG_RECORDS * RECORD);
     match kind {
         Kind::Valid => calls().into_iter().flat_map(bytes_of).collect(),

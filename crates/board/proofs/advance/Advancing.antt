@@ -26,9 +26,10 @@ use Rattle.board.specs.declared.call.Advanced.the-variants as advanced
 use Rattle.board.specs.Log.{writeAt, recordWidth, logBytes, capacity}
 use Rattle.board.specs.Board.{unbrokenParts, unbrokenTest, pointsTest, tracksTest, shapeTest, trackAt}
 use Rattle.board.specs.Points.{pointMost, keysOf, infosOf, trackCount}
-use Rattle.board.specs.Tick.{Stage, staged, tickFrom, playingWord, members}
+use Rattle.board.specs.Tick.{Stage, staged, tickFrom, playingWord, followWord, members}
 use Rattle.board.specs.Replay.{Each}
-use Rattle.board.specs.Quiet.{QuietFor, Leapable, leapTracks, leapInto}
+use Rattle.board.specs.Steady.{SteadyFor}
+use Rattle.board.specs.Quiet.{QuietFor, masterOf, Leapable, leapTracks, leapInto}
 use Rattle.board.specs.Cut.{Ran, Did, ticks, counted, sorted}
 use Rattle.board.specs.Replay.{World, w-halt, w-step, w-bar, perform}
 use Rattle.board.specs.Call.{Reply, refused, Stop, ends, fills, gridstep, haltOf, barOf, barred, saysOf, makesOf, most, taken?, runCount, advanceBy, does, Gives, world, stoppedBy, advancedSaid}
@@ -39,6 +40,7 @@ use Rattle.board.proofs.tick.Staging.{length-log, write-none}
 use Rattle.board.proofs.call.Machine.{flat-is}
 use Rattle.board.proofs.tick.Steps.{tick-keeps}
 use Rattle.board.proofs.quiet.Leaps.{leap-tracks-zero, leap-tracks-long, leap-into}
+use Rattle.board.proofs.quiet.Pairs.{Mastered}
 use Rattle.board.proofs.quiet.Stretches.{stretch-ticks}
 
 -- b with other tracks, another clock and another number of records held
@@ -60,7 +62,7 @@ unfolding unbrokenParts
 whole-points b h =
     let n = b .points .count in
     let points = pointsTest (b .present) (b .tracks) 0 (keysOf (b .points)) (infosOf (b .points)) in
-    let tracks = tracksTest (b .present) (b .tracks) (b .clock) in
+    let tracks = tracksTest (b .present) (b .present) 0 (b .tracks) (b .clock) in
     let rest = points && shapeTest (b .present) (b .tracks) (b .points .keys) (b .points .infos) in
     let p = both (leb (b .clock .0) clockEnd) (leb n pointMost && (tracks && rest)) h in
     both points _ (both tracks rest (both (leb n pointMost) (tracks && rest) (p .1) .1) .1) .0
@@ -97,7 +99,7 @@ module _ (b : Board) (log : List ℕ) (ts : List Track) (clock held : ℕ) where
   abbrev pub stageOf : Stage
   stageOf = tickFrom (keysOf (b .points)) (infosOf (b .points)) (clock + 1) (b .present) ts
 
-  halt-ends : clockEnd ≤ clock → halt here ≡ some ends
+  pub halt-ends : clockEnd ≤ clock → halt here ≡ some ends
   unfolding haltOf
   halt-ends h = simp (le-leb clockEnd clock h)
 
@@ -105,12 +107,12 @@ module _ (b : Board) (log : List ℕ) (ts : List Track) (clock held : ℕ) where
   unfolding haltOf
   halt-fills h l = simp (lt-leb clockEnd clock h, lt-leb (held + length (stageOf .records)) (capacity (length log)) l)
 
-  halt-none : clock < clockEnd → held + length (stageOf .records) ≤ capacity (length log) → halt here ≡ none
+  pub halt-none : clock < clockEnd → held + length (stageOf .records) ≤ capacity (length log) → halt here ≡ none
   unfolding haltOf
   halt-none h l = simp (lt-leb clockEnd clock h, le-leb (held + length (stageOf .records)) (capacity (length log)) l)
 
   -- a tick taken: its records behind the held ones
-  step-is : held + length (stageOf .records) ≤ capacity (length log) →
+  pub step-is : held + length (stageOf .records) ≤ capacity (length log) →
       step here ≡ world (boardAt b (stageOf .tracks) (clock + 1) (held + length (stageOf .records))) (writeAt log (held * recordWidth) (logBytes (stageOf .records)))
   step-is l =
       ap (λ (bs : List ℕ). world (boardAt b (stageOf .tracks) (clock + 1) (held + length (stageOf .records))) bs)
@@ -183,20 +185,27 @@ module _ (b : Board) (count : ℕ) (log₀ log : List ℕ) (ts : List Track) (cl
 module _ (b : Board) (log : List ℕ) (ts : List Track) (clock held r : ℕ) (l : length ts ≡ trackCount)
     (leapable : Leapable ts (members (playingWord (b .present) ts)))
     (skipped : Each (λ i. QuietFor (keysOf (b .points)) r i (trackAt ts i)) (members (playingWord (b .present) ts)))
+    (mastered : Mastered (b .present) ts (members (followWord (b .present) ts)))
+    (steady : Each (λ i. SteadyFor r (trackAt ts i) (masterOf ts i)) (members (followWord (b .present) ts)))
     (fit : held ≤ capacity (length log)) where
   abbrev leapt : ℕ → List Track
   leapt j = leapTracks j (b .present) ts
 
-  abbrev at : ℕ → World Board
+  -- where j of them lead
+  abbrev pub at : ℕ → World Board
   at j = world (boardAt b (leapt j) (clock + j) held) log
 
   quiet-stage : (j : ℕ) → j < r → stageOf b log (leapt j) (clock + j) held ≡ staged (leapt (suc j)) [] []
-  quiet-stage j h = stretch-ticks (keysOf (b .points)) (infosOf (b .points)) (b .present) ts l leapable r skipped (clock + j + 1) j h
+  quiet-stage j h = stretch-ticks (keysOf (b .points)) (infosOf (b .points)) (b .present) ts l leapable mastered r skipped steady (clock + j + 1) j h
 
   none-written : (j : ℕ) → j < r → held + length (stageOf b log (leapt j) (clock + j) held .records) ≤ capacity (length log)
   none-written j h = omega (arith, ap (λ (s : Stage). length (s .records)) (quiet-stage j h))
 
-  step-at : (j : ℕ) → j < r → step (at j) ≡ at (suc j)
+  -- each is taken
+  pub halt-at : (j : ℕ) → j < r → clock + j < clockEnd → halt (at j) ≡ none
+  halt-at j h c = halt-none b log (leapt j) (clock + j) held c (none-written j h)
+
+  pub step-at : (j : ℕ) → j < r → step (at j) ≡ at (suc j)
   unfolding logBytes
   step-at j h =
       let e : clock + j + 1 ≡ clock + suc j = omega arith in
@@ -209,7 +218,7 @@ module _ (b : Board) (log : List ℕ) (ts : List Track) (clock held r : ℕ) (l 
   ticks-at zero j h c = ap (λ (m : ℕ). record { taken = 0; why = none; end = at m }) (sym (add-zero j))
   ticks-at (suc k) j h c =
       let e : suc j + k ≡ j + suc k = omega arith in
-      ticks-on halt step k (at j) (halt-none b log (leapt j) (clock + j) held (omega arith) (none-written j (omega arith)))
+      ticks-on halt step k (at j) (halt-at j (omega arith) (omega arith))
       ∙ ap (λ (w : World Board). counted (go k w)) (step-at j (omega arith))
       ∙ ap counted (ticks-at k (suc j) (omega arith) (omega arith))
       ∙ ap (λ (m : ℕ). record { taken = suc k; why = none; end = at m }) e
@@ -230,6 +239,11 @@ unfolding Each
 quiet-none ks ts [] = tt
 quiet-none ks ts (i ∷ is) = (λ j h. absurd (omega arith), quiet-none ks ts is)
 
+pub steady-none : (ts : List Track) (is : List ℕ) → Each (λ i. SteadyFor 0 (trackAt ts i) (masterOf ts i)) is
+unfolding Each
+steady-none ts [] = tt
+steady-none ts (i ∷ is) = (λ n p h. absurd (omega arith), steady-none ts is)
+
 -- what the code leaps, by the word that it keeps
 pub leap-is : (k present word : ℕ) (ts : List Track) → word ≡ playingWord present ts → length ts ≡ trackCount
     → leapInto k ts (members word) ts ≡ leapTracks k present ts
@@ -238,16 +252,18 @@ leap-is k present word ts e l = ap (λ (w : ℕ). leapInto k ts (members w) ts) 
 -- as many quiet ticks as are leapt are taken
 pub going-leap : (b : Board) (count : ℕ) (log₀ log : List ℕ) (ts : List Track) (clock held taken : ℕ) (answer : Advanced) →
     Going b count log₀ log ts clock held taken answer → (word r k : ℕ) → word ≡ playingWord (b .present) ts →
-    Leapable ts (members word) → Each (λ i. QuietFor (keysOf (b .points)) r i (trackAt ts i)) (members word) → k ≤ r → k ≤ count - taken →
+    Leapable ts (members word) → Each (λ i. QuietFor (keysOf (b .points)) r i (trackAt ts i)) (members word) →
+    Mastered (b .present) ts (members (followWord (b .present) ts)) →
+    Each (λ i. SteadyFor r (trackAt ts i) (masterOf ts i)) (members (followWord (b .present) ts)) → k ≤ r → k ≤ count - taken →
     k ≤ clockEnd - clock → {next : List Track} → next ≡ leapInto k ts (members word) ts → clock ≤ clockEnd →
     Going b count log₀ log next (clock + k) held (taken + k) (advanced.Done (record { 0 = taken + k }))
-going-leap b count log₀ log ts clock held taken answer g word r k ew leapable skipped kr kc ke {next} en c =
+going-leap b count log₀ log ts clock held taken answer g word r k ew leapable skipped mastered steady kr kc ke {next} en c =
     let leapable′ = subst (λ (w : ℕ). Leapable ts (members w)) ew leapable in
     let skipped′ = subst (λ (w : ℕ). Each (λ i. QuietFor (keysOf (b .points)) r i (trackAt ts i)) (members w)) ew skipped in
     let fit : held ≤ capacity (length log) = rw (g .long) (g .fits) in
     let e : next ≡ leapTracks k (b .present) ts =
     en ∙ ap (λ (w : ℕ). leapInto k ts (members w) ts) ew ∙ leap-into k (b .present) ts (g .tracks-long) in
-    let run = ticks-at b log ts clock held r (g .tracks-long) leapable′ skipped′ fit k 0 (omega arith) (omega arith) in
+    let run = ticks-at b log ts clock held r (g .tracks-long) leapable′ skipped′ mastered steady fit k 0 (omega arith) (omega arith) in
     let z : 0 + k ≡ k = omega arith in
     let run′ : go k (world (boardAt b ts clock held) log) ≡ record { taken = k; why = none; end = world (boardAt b next (clock + k) held) log } =
     (λ j. go k (world (boardAt b (sym (leap-tracks-zero (b .present) ts (g .tracks-long) leapable′) j) (sym (add-zero clock) j) held) log))
@@ -259,7 +275,7 @@ going-leap b count log₀ log ts clock held taken answer g word r k ew leapable 
       answer-is = refl;
       so-far = g .so-far ∙ later-leap halt step count taken (world (boardAt b ts clock held) log) k (world (boardAt b next (clock + k) held) log) (omega (arith, g .taken-le)) run′;
       whole = subst (λ (ns : List Track). unbrokenTest (boardAt b ns (clock + k) held) ≡ true) (sym e)
-          (keeps-at b log ts clock held r (g .tracks-long) leapable′ skipped′ fit (g .whole) k kr (omega arith));
+          (keeps-at b log ts clock held r (g .tracks-long) leapable′ skipped′ mastered steady fit (g .whole) k kr (omega arith));
       fits = g .fits;
       long = g .long;
       tracks-long = ap length e ∙ leap-tracks-long k (b .present) ts ∙ g .tracks-long;

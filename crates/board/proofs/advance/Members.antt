@@ -15,7 +15,7 @@ use Rattle.board.specs.declared.log.Record.{Record}
 use Rattle.board.specs.Log.{writeAt, recordWidth, logBytes}
 use Rattle.board.specs.Points.{ascendingFrom, key, keysOf, infosOf, waits, commandOf, targetOf, trackCount}
 use Rattle.board.specs.Board.{noTrack, trackAt, isPresent, pointsTest}
-use Rattle.board.specs.Tick.{Stage, staged, stepRecords, reachedBy, foundBy, stepMember, stepAll, runAll, tickFrom, playingWord, InfoRule, TracksRule, tickMost}
+use Rattle.board.specs.Tick.{Stage, staged, stepRecords, reachedBy, foundBy, stepMember, stepAll, runAll, playFrom, playingWord, InfoRule, TracksRule, tickMost}
 use Rattle.board.specs.Tick.{members}
 use Rattle.board.specs.Replay.{Each}
 use Rattle.board.specs.Quiet.{CanLeap, Leapable}
@@ -24,7 +24,8 @@ use Rattle.board.proofs.points.Rows.{ascending-weaken}
 use Rattle.board.proofs.tick.Staging.{length-log, log-append, step-most, reached-most}
 use Rattle.board.proofs.tick.Commands.{tracksRun, recordsRun, run-apart, run-more, run-most}
 use Rattle.board.proofs.log.Words.{length-write}
-use Rattle.board.proofs.tick.Steps.{members-ascend, members-most, steps-more, step-rule, found-rule, found-target}
+use Rattle.board.proofs.tick.Steps.{members-ascend, members-most, steps-more}
+use Rattle.board.proofs.tick.Found.{step-rule, found-rule, found-target}
 use Rattle.board.proofs.tick.Bits.{Lowest, lowest, cleared, members-count}
 
 -- what stands before the end of a write is what stood there, and what was written
@@ -170,12 +171,12 @@ module _ (b : Board) (ts : List Track) (clock word : ℕ) (ew : word ≡ playing
   s : Stepping b ts clock (playingWord (b .present) ts) stage reached next rest left count m
   s = subst (λ (w : ℕ). Stepping b ts clock w stage reached next rest left count m) ew before
 
-  abbrev tick : Stage
-  tick = tickFrom (keysOf (b .points)) (infosOf (b .points)) (clock + 1) (b .present) ts
+  abbrev played : Stage
+  played = playFrom (keysOf (b .points)) (infosOf (b .points)) (clock + 1) (b .present) ts
 
-  -- records staged so far are part of the tick's
-  pub stepping-over : count ≤ length (tick .records)
-  unfolding tickFrom
+  -- records staged so far are part of those of the steps and the commands
+  pub stepping-over : count ≤ length (played .records)
+  unfolding playFrom
   stepping-over =
       let a = steps-more (keysOf (b .points)) (infosOf (b .points)) (clock + 1) (members rest) (staged next (s .records) (take m reached)) in
       let e = ap (λ (x : Stage). length (x .records)) (s .work) in
@@ -183,18 +184,18 @@ module _ (b : Board) (ts : List Track) (clock word : ℕ) (ew : word ≡ playing
       let c = run-more (clock + 1) (z .reached) z in
       omega (arith, s .count-is)
 
-  -- all members are stepped: the commands complete the tick
+  -- all members are stepped: the commands complete them
   pub stepping-done : left ≤ 0 → {after : List Track} {total : ℕ} {stage′ : List ℕ} → after ≡ tracksRun (clock + 1) (take m reached) next →
       total ≡ count + length (recordsRun (clock + 1) (take m reached) next) →
       stage′ ≡ writeAt stage (count * recordWidth) (logBytes (recordsRun (clock + 1) (take m reached) next)) →
-      (after ≡ tick .tracks) × (total ≡ length (tick .records)) × (take (total * recordWidth) stage′ ≡ logBytes (tick .records))
+      (after ≡ played .tracks) × (total ≡ length (played .records)) × (take (total * recordWidth) stage′ ≡ logBytes (played .records))
       × (length stage′ ≡ tickMost * recordWidth)
-  unfolding tickFrom stepAll
+  unfolding playFrom stepAll
   stepping-done h {after} {total} {stage′} ea et es =
       let rs = recordsRun (clock + 1) (take m reached) next in
       let end : staged next (s .records) (take m reached) ≡ stepAll (keysOf (b .points)) (infosOf (b .points)) (clock + 1) (members (playingWord (b .present) ts)) (staged ts [] []) =
       ap (λ (is : List ℕ). stepAll (keysOf (b .points)) (infosOf (b .points)) (clock + 1) is (staged next (s .records) (take m reached))) (sym (none-left rest (s .small) (omega (arith, s .left-is)))) ∙ s .work in
-      let all : staged (tracksRun (clock + 1) (take m reached) next) (s .records ++ rs) (take m reached) ≡ tick =
+      let all : staged (tracksRun (clock + 1) (take m reached) next) (s .records ++ rs) (take m reached) ≡ played =
       sym (run-apart (clock + 1) (take m reached) next (s .records) (take m reached)) ∙ ap (λ (x : Stage). runAll (clock + 1) (x .reached) x) end in
       let width : total * recordWidth ≡ count * recordWidth + length (logBytes rs) = omega (arith, length-log rs) in (
         ea ∙ ap (λ (x : Stage). x .tracks) all,

@@ -20,7 +20,7 @@ use Rattle.board.specs.declared.tick.Stepped.{Stepped}
 use Rattle.board.specs.Log.{writeAt, recordWidth, logBytes}
 use Rattle.board.specs.Points.{ascendingFrom, keysOf, infosOf, waits, commandOf, trackCount}
 use Rattle.board.specs.Board.{noTrack, trackAt, isPresent, pointsTest}
-use Rattle.board.specs.Tick.{Stage, staged, stepped, needsMore, stepRecords, reachedBy, foundBy, runCommand, runAll, tickFrom, playBit, playingWord, TracksRule, tickMost}
+use Rattle.board.specs.Tick.{Stage, staged, stepped, needsMore, stepRecords, reachedBy, foundBy, runCommand, runAll, playFrom, followWord, tickFrom, playBit, playingWord, TracksRule, tickMost}
 use Rattle.board.specs.Tick.{members}
 use Rattle.board.specs.Replay.{Each}
 use Rattle.board.specs.Quiet.{CanLeap, Leapable, leapInto, leapTracks}
@@ -33,6 +33,7 @@ use Rattle.board.proofs.advance.Members.{Stepping, stepping-start, step
 use Rattle.board.proofs.quiet.Players.{EachPlaying, bit-plays, each-member, word-small}
 use Rattle.board.proofs.tick.Staging.{write-none}
 use Rattle.board.proofs.tick.Steps.{members-ascend}
+use Rattle.board.proofs.follow.Following.{follow-adds}
 
 -- ---- tracks leapt in their places, and another track
 
@@ -279,11 +280,11 @@ module _ (b : Board) (ts : List Track) (clock word skipped : ℕ) (stage reached
 
 -- ---- the ways out
 
--- a tick from the tracks ts is worked out: the tracks after it, its records in the stage, the playing word
-pub record Ticked (b : Board) (ts : List Track) (clock : ℕ) (after : List Track) (total : ℕ) (stage : List ℕ) (word : ℕ) : Type 0 where
-  pub tracks : after ≡ tickFrom (keysOf (b .points)) (infosOf (b .points)) (clock + 1) (b .present) ts .tracks
-  pub count : total ≡ length (tickFrom (keysOf (b .points)) (infosOf (b .points)) (clock + 1) (b .present) ts .records)
-  pub bytes : take (total * recordWidth) stage ≡ logBytes (tickFrom (keysOf (b .points)) (infosOf (b .points)) (clock + 1) (b .present) ts .records)
+-- the steps and the commands of a tick from the tracks ts are worked out: the tracks after them, their records in the stage, the playing word
+pub record Played (b : Board) (ts : List Track) (clock : ℕ) (after : List Track) (total : ℕ) (stage : List ℕ) (word : ℕ) : Type 0 where
+  pub tracks : after ≡ playFrom (keysOf (b .points)) (infosOf (b .points)) (clock + 1) (b .present) ts .tracks
+  pub count : total ≡ length (playFrom (keysOf (b .points)) (infosOf (b .points)) (clock + 1) (b .present) ts .records)
+  pub bytes : take (total * recordWidth) stage ≡ logBytes (playFrom (keysOf (b .points)) (infosOf (b .points)) (clock + 1) (b .present) ts .records)
   pub stage-long : length stage ≡ tickMost * recordWidth
   pub word-is : word ≡ playingWord (b .present) after
 
@@ -297,7 +298,14 @@ module _ (b : Board) (ts : List Track) (clock word skipped : ℕ) (ew : word ≡
 
   -- records staged so far are part of the tick's
   pub turning-over : count ≤ length (tickFrom (keysOf (b .points)) (infosOf (b .points)) (clock + 1) (b .present) leapt .records)
-  turning-over = stepping-over b leapt clock word same stage reached _ rest left count m (s .steps)
+  unfolding tickFrom
+  turning-over =
+      let played = playFrom (keysOf (b .points)) (infosOf (b .points)) (clock + 1) (b .present) leapt in
+      omega (
+        arith,
+        stepping-over b leapt clock word same stage reached _ rest left count m (s .steps),
+        follow-adds (clock + 1) (members (followWord (b .present) leapt)) played,
+      )
 
   module _ (h : left ≤ 0) where
     over : leapInto skipped next (members rest) next ≡ next
@@ -315,14 +323,14 @@ module _ (b : Board) (ts : List Track) (clock word skipped : ℕ) (ew : word ≡
     pub turning-more : {after : List Track} {total : ℕ} {stage′ : List ℕ} {word′ : ℕ} → after ≡ tracksRun (clock + 1) (take m reached) next →
         total ≡ count + length (recordsRun (clock + 1) (take m reached) next) →
         stage′ ≡ writeAt stage (count * recordWidth) (logBytes (recordsRun (clock + 1) (take m reached) next)) → word′ ≡ playingWord (b .present) after →
-        Ticked b leapt clock after total stage′ word′
+        Played b leapt clock after total stage′ word′
     turning-more ea et es eq =
         let d = stepping-done b leapt clock word same stage reached next rest left count m all-stepped h ea et es in
         record { tracks = d .0; count = d .1; bytes = d .2; stage-long = d .3; word-is = eq }
 
     -- neither
     pub turning-still : more ≡ false → {after : List Track} {total : ℕ} {stage′ : List ℕ} {word′ : ℕ} → after ≡ next → total ≡ count → stage′ ≡ stage →
-        word′ ≡ word → Ticked b leapt clock after total stage′ word′
+        word′ ≡ word → Played b leapt clock after total stage′ word′
     unfolding logBytes
     turning-still e ea et es eq =
         let none = run-none (clock + 1) (take m reached) (staged next [] []) (s .no-command e) in

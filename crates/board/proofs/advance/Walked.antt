@@ -1,4 +1,5 @@
--- A tick that is not quiet: no more tracks begin to play than it writes records, and if it writes none, fewer play after it.
+-- A tick that is not quiet: no more tracks begin to play and bands are entered than it writes records, and if it writes none, fewer play
+-- or fewer bands are held after it, or a track of a follower's pair has left its line by then.
 use Prim.Native.Nat.{ℕ, zero, suc, _+_, _/_, _%_, _≤_, _<_}
 use mathlib.Core.Path.{_≡_, refl, sym, ap, _∙_}
 use mathlib.Core.Logic.{_⊎_, inl, inr, ⊎-elim}
@@ -14,15 +15,20 @@ use Rattle.track.specs.Walk.{stops, visited, step}
 use Rattle.board.specs.declared.log.Record.{Record}
 use Rattle.board.specs.Board.{noTrack, trackAt}
 use Rattle.board.specs.Tick.{keep, members}
-use Rattle.board.specs.Tick.{pointRecords, playBit, playingWord, Stage, staged, foundBy, stepRecords, reachedBy, stepMember, stepAll, obeyed, runCommand, runAll, tickFrom}
+use Rattle.board.specs.Tick.{pointRecords, playBit, playingWord, Stage, staged, foundBy, stepRecords, reachedBy, stepMember, stepAll, obeyed, runCommand, runAll, playFrom, followWord, bandCount, tickFrom}
 use Rattle.board.specs.Points.{waits, targetOf, trackCount}
-use Rattle.board.specs.Quiet.{Some, NonzeroInfos, Fewest, Leapable, whereSet, leapTracks}
+use Rattle.board.specs.Replay.{Each}
+use Rattle.board.specs.Steady.{TurnsBackWithin}
+use Rattle.board.specs.Quiet.{Some, NonzeroInfos, masterOf, Fewest, Leapable, whereSet, leapTracks}
 use Rattle.board.proofs.points.Keys.{lt-or-ge}
 use Rattle.board.proofs.tick.PlayingLaws.{bit-small}
 use Rattle.board.proofs.quiet.Players.{SomePlaying, players, members-playing, longer, some-playing}
 use Rattle.board.proofs.tick.Commands.{run-obeyed, run-more}
-use Rattle.board.proofs.tick.Steps.{tick-long}
+use Rattle.board.proofs.tick.Steps.{play-long, play-bands, tick-apart, tick-bands-fewer}
+use Rattle.board.proofs.follow.Following.{Still, followedFrom, follow-playing, follow-bands}
 use Rattle.board.proofs.quiet.Leaps.{leap-tracks-long, leap-tracks-word}
+use Rattle.board.proofs.quiet.Bands.{leap-follow-word, leap-bands}
+use Rattle.board.proofs.quiet.Pairs.{Mastered}
 use Rattle.board.proofs.quiet.Stretches.{maximal}
 
 -- ---- how many tracks play
@@ -195,6 +201,9 @@ module _ (ks ds : List ℕ) (clock present : ℕ) (ts : List Track) (l : length 
   abbrev stepped : Stage
   stepped = stepAll ks ds clock (members (playingWord present ts)) (staged ts [] [])
 
+  abbrev played : Stage
+  played = playFrom ks ds clock present ts
+
   abbrev tick : Stage
   tick = tickFrom ks ds clock present ts
 
@@ -205,8 +214,8 @@ module _ (ks ds : List ℕ) (clock present : ℕ) (ts : List Track) (l : length 
   stepped-reached : length (stepped .reached) ≤ length (stepped .records)
   stepped-reached = all-reached ks ds clock (members (playingWord present ts)) (staged ts [] []) (omega arith)
 
-  count-starts : playCount present (tick .tracks) ≤ playCount present ts + length (tick .records)
-  unfolding tickFrom
+  count-starts : playCount present (played .tracks) ≤ playCount present ts + length (played .records)
+  unfolding playFrom
   count-starts =
       let a = run-count clock present (stepped .reached) stepped in
       let b = ap (playCount present) stepped-tracks in
@@ -215,8 +224,8 @@ module _ (ks ds : List ℕ) (clock present : ℕ) (ts : List Track) (l : length 
       let e = run-more clock (stepped .reached) stepped in
       omega arith
 
-  count-fewer : length (tick .records) ≤ 0 → SomePlaying Stops 0 present ts → playCount present (tick .tracks) < playCount present ts
-  unfolding tickFrom
+  count-fewer : length (played .records) ≤ 0 → SomePlaying Stops 0 present ts → playCount present (played .tracks) < playCount present ts
+  unfolding playFrom
   count-fewer h s =
       let a = run-count clock present (stepped .reached) stepped in
       let b = ap (playCount present) stepped-tracks in
@@ -232,30 +241,76 @@ module _ (ks ds : List ℕ) (clock present : ℕ) (ts : List Track) (l : length 
   before : length (plays ts) ≡ playCount present ts
   before = members-playCount present ts l
 
-  behind : length (plays (tick .tracks)) ≡ playCount present (tick .tracks)
-  behind = members-playCount present (tick .tracks) (tick-long ks ds clock present ts ∙ l)
+  -- the third pass changes no mode
+  behind : length (plays (tick .tracks)) ≡ playCount present (played .tracks)
+  unfolding tickFrom
+  behind =
+      ap (λ (w : ℕ). length (members w)) (follow-playing clock present (members (followWord present ts)) played)
+      ∙ members-playCount present (played .tracks) (play-long ks ds clock present ts ∙ l)
 
-  -- no more tracks begin to play than the tick writes records
-  pub tick-starts : length (plays (tick .tracks)) ≤ length (plays ts) + length (tick .records)
-  tick-starts = omega (arith, before, behind, count-starts)
+  -- the bands judged, from what the steps and the commands leave
+  abbrev judging : Stage
+  judging = followedFrom clock (members (followWord present ts)) (played .tracks)
 
-  -- a tick that writes no record, and in which a playing track stops, leaves fewer playing
-  pub tick-fewer : length (tick .records) ≤ 0 → Some (λ i. stops (trackAt ts i) ≡ true) (plays ts) → length (plays (tick .tracks)) < length (plays ts)
-  tick-fewer h s = omega (arith, before, behind, count-fewer h (some-playing Stops present ts l s))
+  records-are : length (tick .records) ≡ length (played .records) + length (judging .records)
+  records-are = ap (λ (s : Stage). length (s .records)) (tick-apart ks ds clock present ts) ∙ length-append (played .records) (judging .records)
 
--- after all quiet ticks, the next writes a record or leaves fewer playing
-pub walked-tick : (ks ds : List ℕ) (clock present : ℕ) (ts : List Track) → length ts ≡ trackCount → Leapable ts (members (playingWord present ts))
-    → NonzeroInfos ks ds → (a r : ℕ) → Fewest ks ts (members (playingWord present ts)) a r → r < a
-    → (0 < length (tickFrom ks ds clock present (leapTracks r present ts) .records))
-    ⊎ (length (members (playingWord present (tickFrom ks ds clock present (leapTracks r present ts) .tracks))) < length (members (playingWord present ts)))
-walked-tick ks ds clock present ts l leapable tell a r f p =
-    let us = leapTracks r present ts in
-    let lu = leap-tracks-long r present ts ∙ l in
-    let e = leap-tracks-word r present ts in
-    ⊎-elim inl
-    (λ s.
-    ⊎-elim (λ (w : 0 < length (tickFrom ks ds clock present us .records)). inl w)
-    (λ (w : length (tickFrom ks ds clock present us .records) ≤ 0).
-    inr (rw e at (tick-fewer ks ds clock present us lu w (rw e s))))
-    (lt-or-ge 0 (length (tickFrom ks ds clock present us .records))))
-    (maximal ks ds present ts l leapable tell clock a r f p)
+  bands-are : bandCount present (tick .tracks) ≤ bandCount present ts + length (judging .records)
+  bands-are =
+      let e = ap (λ (s : Stage). bandCount present (s .tracks)) (tick-apart ks ds clock present ts) in
+      omega (arith, play-bands ks ds clock present ts, follow-bands clock present (members (followWord present ts)) (played .tracks))
+
+  -- no more tracks begin to play and bands are entered than the tick writes records
+  pub tick-starts : length (plays (tick .tracks)) + bandCount present (tick .tracks) ≤ length (plays ts) + bandCount present ts + length (tick .records)
+  tick-starts = omega (arith, before, behind, count-starts, bands-are, records-are)
+
+  module _ (h : length (tick .records) ≤ 0) where
+    -- a tick that writes no record, and in which a playing track stops, leaves fewer playing
+    pub tick-fewer : Some (λ i. stops (trackAt ts i) ≡ true) (plays ts)
+        → length (plays (tick .tracks)) + bandCount present (tick .tracks) < length (plays ts) + bandCount present ts
+    tick-fewer s =
+        let f = count-fewer (omega (arith, records-are)) (some-playing Stops present ts l s) in
+        omega (arith, before, behind, bands-are, records-are)
+
+    -- one that writes no record, and in which a band changes, leaves fewer held
+    pub tick-lower : (Each (Still (played .tracks)) (members (followWord present ts)) → ⊥)
+        → length (plays (tick .tracks)) + bandCount present (tick .tracks) < length (plays ts) + bandCount present ts
+    tick-lower n = omega (arith, before, behind, count-starts, records-are, tick-bands-fewer ks ds clock present ts h n)
+
+-- ---- the tick after all quiet ones
+
+module _ (ks ds : List ℕ) (clock present : ℕ) (ts : List Track) (l : length ts ≡ trackCount) (leapable : Leapable ts (members (playingWord present ts)))
+    (mastered : Mastered present ts (members (followWord present ts))) (tell : NonzeroInfos ks ds) (r : ℕ) where
+  abbrev us : List Track
+  us = leapTracks r present ts
+
+  -- the tracks that play and the bands held
+  abbrev busy : List Track → ℕ
+  busy xs = length (members (playingWord present xs)) + bandCount present xs
+
+  abbrev next : Stage
+  next = tickFrom ks ds clock present us
+
+  leapt-busy : busy us ≡ busy ts
+  leapt-busy = λ j. length (members (leap-tracks-word r present ts j)) + leap-bands r present ts j
+
+  -- it writes a record, or leaves fewer playing or fewer bands held, or a track of a follower's pair has left its line by then
+  pub walked-tick : (a : ℕ) → Fewest ks ts (members (playingWord present ts)) (members (followWord present ts)) a r → r < a
+      → (0 < length (next .records)) ⊎ ((busy (next .tracks) < busy ts)
+      ⊎ Some (λ i. TurnsBackWithin (suc r) (trackAt ts i) (masterOf ts i)) (members (followWord present ts)))
+  walked-tick a f p =
+      ⊎-elim (λ w. inl w)
+      (λ e. ⊎-elim (λ (w : 0 < length (next .records)). inl w) (λ (w : length (next .records) ≤ 0). inr (quiet w e)) (lt-or-ge 0 (length (next .records))))
+      (maximal ks ds present ts l leapable mastered clock r tell a f p)
+    where
+      lu : length us ≡ trackCount
+      lu = leap-tracks-long r present ts ∙ l
+
+      quiet : length (next .records) ≤ 0
+          → Some (λ i. stops (trackAt us i) ≡ true) (members (playingWord present ts))
+          ⊎ ((Each (Still (playFrom ks ds clock present us .tracks)) (members (followWord present ts)) → ⊥)
+          ⊎ Some (λ i. TurnsBackWithin (suc r) (trackAt ts i) (masterOf ts i)) (members (followWord present ts)))
+          → (busy (next .tracks) < busy ts) ⊎ Some (λ i. TurnsBackWithin (suc r) (trackAt ts i) (masterOf ts i)) (members (followWord present ts))
+      quiet w (inl s) = inl (rw leapt-busy at (tick-fewer ks ds clock present us lu w (rw (leap-tracks-word r present ts) s)))
+      quiet w (inr (inl n)) = inl (rw leapt-busy at (tick-lower ks ds clock present us lu w (rw (leap-follow-word r present ts) n)))
+      quiet w (inr (inr s)) = inr s

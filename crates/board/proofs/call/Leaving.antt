@@ -11,10 +11,11 @@ use Rattle.board.specs.declared.query.TrackRead.{TrackRead}
 use Rattle.board.specs.declared.query.PointRead.{PointRead}
 use Rattle.board.specs.declared.query.CountRead.{CountRead}
 use Rattle.board.specs.declared.call.Call.the-variants as call
-use Rattle.board.specs.Setup.{setUp, addTrack, setPoint, dropPoint, clearBoard}
+use Rattle.board.specs.declared.call.Pairs.{Pairs}
+use Rattle.board.specs.Setup.{setUp, addTrack, setPoint, dropPoint, setMaster, clearBoard}
 use Rattle.board.specs.Query.{clockOf, trackOf, pointIn, countIn}
 use Rattle.board.specs.Replay.{wrote}
-use Rattle.board.specs.Call.{Reply, answered, clockSaid, trackSaid, pointSaid, countSaid, madeOf, untouched, saysOf, makesOf, gridstep, runCount}
+use Rattle.board.specs.Call.{Reply, answered, clockSaid, trackSaid, pointSaid, countSaid, madeOf, untouched, pairNumbers, saysOf, makesOf, gridstep, runCount}
 use Rattle.board.specs.Call.{world, Gives, Leaves}
 use Rattle.board.proofs.call.Machine.{counts}
 
@@ -48,6 +49,10 @@ module _ (b : Board) where
   pub drop-point-leaves : (i p : ℤ) {r : Outcome} → r ≡ dropPoint b i p → Leaves (call.DropPoint i p) b (answered (r .answer)) (r .board)
   unfolding runCount saysOf makesOf
   drop-point-leaves i p h = outcome-gives (dropPoint b i p) h
+
+  pub set-master-leaves : (i m : ℤ) (ps : Pairs) {r : Outcome} → r ≡ setMaster b i m (pairNumbers ps) → Leaves (call.Master i m ps) b (answered (r .answer)) (r .board)
+  unfolding runCount saysOf makesOf
+  set-master-leaves i m ps h = outcome-gives (setMaster b i m (pairNumbers ps)) h
 
   pub clear-leaves : {r : Outcome} → r ≡ clearBoard b → Leaves call.Clear b (answered (r .answer)) (r .board)
   unfolding runCount saysOf makesOf

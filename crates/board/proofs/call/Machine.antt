@@ -24,19 +24,20 @@ use Rattle.board.specs.declared.setup.Outcome.{Outcome}
 use Rattle.board.specs.declared.call.Call.{Call}
 use Rattle.board.specs.declared.call.Call.the-variants as call
 use Rattle.board.specs.Board.{trackAt, isPresent, unbrokenTest, foundIn, Unbroken}
-use Rattle.board.specs.Setup.{boardWith, setUp, addTrack, setPoint, dropPoint, clearBoard}
+use Rattle.board.specs.Setup.{boardWith, setUp, addTrack, setPoint, dropPoint, setMaster, clearBoard}
 use Rattle.board.specs.Tick.{tickOf}
 use Rattle.board.specs.Mode.{ModeResult, declined, callRecords, changing, changesTo, decided, modeResult}
 use Rattle.board.specs.Cut.{ticks, Part, run, one}
 use Rattle.board.specs.Replay.{Made, World, flat, wrote, w-halt, w-bar, w-step, perform}
-use Rattle.board.specs.Call.{refused, answered, Stop, ends, fills, stoppedBy, Reason, stopped, refusedWith, takenIn, whyNot, ticked, grownBy, haltOf, barOf, madeOf, madeBy, saysOf, makesOf, isAccepted, clearsOf, gridstep, runCount, does, world, Gives}
+use Rattle.board.specs.Call.{refused, answered, Stop, ends, fills, stoppedBy, Reason, stopped, refusedWith, takenIn, whyNot, ticked, grownBy, haltOf, barOf, madeOf, madeBy, pairNumbers, saysOf, makesOf, isAccepted, clearsOf, gridstep, runCount, does, world, Gives}
 use Rattle.board.proofs.log.Records.{length-record}
 use Rattle.board.proofs.rules.Broken.{unbroken-of, unbroken-is}
-use Rattle.board.proofs.setup.Ways.{by-natural, set-up-ways, add-track-ways, set-point-ways, drop-point-ways, clear-ways}
+use Rattle.board.proofs.setup.Ways.{by-natural, set-up-ways, add-track-ways, set-point-ways, drop-point-ways, set-master-ways, clear-ways}
 use Rattle.board.proofs.rules.Present.{found-in}
 use Rattle.board.proofs.tick.Commands.{Goes?, grid-goes}
 use Rattle.board.proofs.tick.Steps.{entered-bounded, entered-sound, tick-keeps}
-use Rattle.board.proofs.setup.Keeping.{put-track-whole, held-whole, set-up-whole, add-track-whole, set-point-whole, drop-point-whole, clear-whole}
+use Rattle.track.proofs.Follows.{entered-follower}
+use Rattle.board.proofs.setup.Keeping.{put-track-whole, held-whole, set-up-whole, add-track-whole, set-point-whole, drop-point-whole, set-master-whole, clear-whole}
 use Rattle.board.proofs.replay.Cuts.{ticks-on, ticks-off, advance-in, advance-out, Read}
 use Rattle.board.proofs.replay.Replays.{Counts, Leaves, Room, sets-write}
 
@@ -126,6 +127,9 @@ module _ (b : Board) where
   drop-point-held : (track position : ℤ) → Same (dropPoint b track position)
   drop-point-held track position = drop-point-ways b Same (λ k. refl) track position (λ k _. refl)
 
+  set-master-held : (track master : ℤ) (zs : List ℤ) → Same (setMaster b track master zs)
+  set-master-held track master zs = set-master-ways b Same (λ k. refl) track master zs (λ i m _ _ _ _ _ _. refl)
+
   mode-held : (n : ℕ) (track : ℤ) (code : ℕ) → modeResult b n track code .board .held ≡ b .held
   mode-held n = result-ways b n (λ (m : ModeResult). m .board .held ≡ b .held) (λ k. refl) (λ i mode _ _ _. refl)
 
@@ -156,6 +160,7 @@ call-held call.Clock n b = refl
 call-held (call.Track i) n b = refl
 call-held (call.Point i p) n b = refl
 call-held (call.PointCount i from to) n b = refl
+call-held (call.Master i m ps) n b = set-master-held b i m (pairNumbers ps)
 
 abbrev FitsIn : ℕ → Made Board Record → Type 0
 FitsIn n m = recordWidth * (m .board .held + length (m .records)) ≤ n
@@ -179,6 +184,7 @@ call-fits call.Clock n b h = omega arith
 call-fits (call.Track i) n b h = omega arith
 call-fits (call.Point i p) n b h = omega arith
 call-fits (call.PointCount i from to) n b h = omega arith
+call-fits (call.Master i m ps) n b h = same-fits b n (setMaster b i m (pairNumbers ps)) (set-master-held b i m (pairNumbers ps)) h
 
 -- records are written only where they fit, and a call leaves the held ones or lets them go
 pub room : Room gridstep
@@ -228,7 +234,7 @@ module _ (b : Board) (w : Unbroken b) (held : ℕ) where
       let t = trackAt (b .tracks) i in
       let s = w .tracks i h in
       let k = entered-bounded (t .min) (t .max) t (refl, refl) mode in
-      put-track-whole b w i (entered t mode) h (entered-sound t (b .clock) s mode l) (k .0) (k .1))
+      put-track-whole b w i (entered t mode) h (entered-sound t (b .clock) s mode l) (entered-follower t mode) (k .0) (k .1))
       track code) held
 
   -- nor does a tick below the clock's end
@@ -256,6 +262,7 @@ module _ (b : Board) (w : Unbroken b) (held : ℕ) where
   made-whole (call.Track i) n = held-whole b w held
   made-whole (call.Point i p) n = held-whole b w held
   made-whole (call.PointCount i from to) n = held-whole b w held
+  made-whole (call.Master i m ps) n = held-whole _ (set-master-whole b w i m (pairNumbers ps)) held
 
 -- nor any number of ticks
 ticks-whole : (n : ℕ) (w : World Board) → Unbroken (w .board) → Unbroken (ticks (w-halt gridstep) (w-step gridstep) n w .end .board)

@@ -19,9 +19,9 @@ use Rattle.board.specs.Setup.{boardWith}
 use Rattle.board.specs.Mode.{ModeResult, modeResult}
 use Rattle.board.specs.Cut.{ticks, Part, run, one, part}
 use Rattle.board.specs.Replay.{World, wrote, w-halt, w-bar, w-step, perform}
-use Rattle.board.specs.Call.{refused, answered, Stop, ends, fills, stoppedBy, untouched, madeOf, madeBy, saysOf, makesOf, gridstep, most, runCount}
+use Rattle.board.specs.Call.{refused, answered, Stop, ends, fills, stoppedBy, untouched, madeOf, madeBy, pairNumbers, saysOf, makesOf, gridstep, most, runCount}
 use Rattle.board.specs.Call.{advanceBy, does, world}
-use Rattle.board.proofs.setup.Ways.{changed-refused, set-up-ways, add-track-ways, set-point-ways, drop-point-ways, clear-ways}
+use Rattle.board.proofs.setup.Ways.{changed-refused, set-up-ways, add-track-ways, set-point-ways, drop-point-ways, set-master-ways, clear-ways}
 use Rattle.board.proofs.replay.Cuts.{advance-in, advance-out}
 use Rattle.board.proofs.call.Machine.{counts, result-ways}
 
@@ -73,6 +73,7 @@ module _ (w : World Board) (k : ℕ) where
   call-equal (call.Track i) = λ e. silent b w
   call-equal (call.Point i p) = λ e. silent b w
   call-equal (call.PointCount i from to) = λ e. silent b w
+  call-equal (call.Master i m ps) = set-master-ways b Equal (λ _ _. silent b w) i m (pairNumbers ps) (λ j l _ _ _ _ _ _ e. cc)
 
   -- what stopped an advance, if anything did, is no refusal
   never-refused : (t : ℕ) (o : Option Stop) → stoppedBy t o ≡ refused k → ⊥

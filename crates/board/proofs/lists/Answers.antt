@@ -1,4 +1,4 @@
--- The row of numbers of every answer tells it, since a track that is told has its sixteen cells.
+-- The row of numbers of every answer tells it, since a track that is told has its sixteen cells, its four thresholds and their events.
 use mathlib.Core.Path.{_≡_, subst, refl}
 use lib.IntN.{ℤ}
 use lib.ListN.{length}
@@ -19,12 +19,12 @@ use Rattle.board.specs.declared.call.Advanced.the-variants as advanced
 use Rattle.board.specs.declared.call.Call.{Call}
 use Rattle.board.specs.declared.call.Call.the-variants as call
 use Rattle.board.specs.Board.{unbrokenTest, foundIn}
-use Rattle.board.specs.Setup.{setUp, addTrack, setPoint, dropPoint, clearBoard}
+use Rattle.board.specs.Setup.{setUp, addTrack, setPoint, dropPoint, setMaster, clearBoard}
 use Rattle.board.specs.Query.{clockOf, trackOf, pointIn, countIn, noneRead}
 use Rattle.board.specs.Mode.{modeResult}
 use Rattle.board.specs.Replay.{World}
 use Rattle.board.specs.Call.{answered, clockSaid, trackSaid, pointSaid, countSaid, advancedSaid, Stop}
-use Rattle.board.specs.Call.{saysOf, runCount, does}
+use Rattle.board.specs.Call.{pairNumbers, saysOf, runCount, does}
 use Rattle.board.specs.Row.{numbersOf}
 use Rattle.board.proofs.rules.Present.{found-in}
 use Rattle.board.proofs.rules.Broken.{unbroken-of}
@@ -54,13 +54,16 @@ advance-told (advanced.LogFull n) = tt
 advance-told (advanced.ClockEnd n) = tt
 advance-told (advanced.Refused n) = tt
 
--- of a board that is not broken every track present has its cells
+-- of a board that is not broken every track present has its cells, its thresholds and their events
 track-told : (b : Board) (i : ℤ) → Told (trackSaid (trackOf b i .answer) (trackOf b i .track))
 unfolding trackOf
 track-told b i =
     cond-cases P (unbrokenTest b)
     (λ h. by-natural P (foundIn (b .present) i) _ (noneRead 1)
-    (λ j e. (_, refl, unbroken-of b h .tracks j (found-in (b .present) i e) .valid .cells .number)) tt)
+    (λ j e.
+    let here = found-in (b .present) i e in
+    let f = unbroken-of b h .followers j here in
+    (_, refl, (unbroken-of b h .tracks j here .valid .cells .number, f .thresholds, f .events))) tt)
     (λ _. tt)
   where
     P : TrackRead → Type 0
@@ -82,6 +85,7 @@ told call.Clock w = clock-told (clockOf (w .board))
 told (call.Track i) w = track-told (w .board) i
 told (call.Point i p) w = point-told (pointIn (w .board) i p)
 told (call.PointCount i from to) w = count-told (countIn (w .board) i from to)
+told (call.Master i m ps) w = said-told (setMaster (w .board) i m (pairNumbers ps) .answer)
 
 -- the row of a call's answer says that answer
 pub answer-told : (c : Call) (w : World Board) → replyIn (numbersOf (does c w .answer)) ≡ does c w .answer

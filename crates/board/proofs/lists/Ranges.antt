@@ -1,7 +1,7 @@
 -- Every record of the row has its fields in their ranges, and so is that record when it is unpacked from its bytes.
-use Prim.Native.Nat.{ℕ, suc, _+_, _*_, _≤_, _<_}
+use Prim.Native.Nat.{ℕ, suc, _+_, _-_, _*_, _≤_, _<_}
 use mathlib.Core.Path.{_≡_, refl, sym, _∙_, subst}
-use mathlib.Core.Bool.{true}
+use mathlib.Core.Bool.{true, _||_}
 use mathlib.Core.List.{List, [], _∷_}
 use native.Mathlib.Omega.{arith}
 use lib.Dec.{eqb}
@@ -12,40 +12,45 @@ use Rattle.track.specs.declared.Track.{Track}
 use Rattle.track.specs.declared.Ticks.{Ticks}
 use Rattle.track.specs.declared.grid.Decision.{Decision}
 use Rattle.track.specs.declared.grid.Decision.the-variants as decision
-use Rattle.track.specs.Rule.{PLAYING, WAITING, far, coordinateLast, clockEnd, actionCell, Valid, Sound}
+use Rattle.track.specs.Rule.{PLAYING, WAITING, far, coordinateLast, clockEnd, actionCell, Valid, Sound, eventMost}
+use Rattle.track.specs.Follow.{banded}
 use Rattle.track.specs.Grid.{PLAY, PAUSE, RESUME, STOP, gridOf}
 use Rattle.track.specs.Walk.{arrival, passesAt, step}
 use Rattle.track.proofs.Tests.{cond-cases, both-is}
 use Rattle.track.proofs.Arrivals.{arrival-inside, step-valid}
+use Rattle.track.proofs.Follows.{judged-most}
 use Rattle.board.specs.declared.Board.{Board}
 use Rattle.board.specs.declared.log.Record.{Record}
 use Rattle.board.specs.declared.call.Call.{Call}
 use Rattle.board.specs.declared.call.Call.the-variants as call
 use Rattle.board.specs.Log.{kindTest, recordBytes, unpackOf, recordIs, recordValues}
 use Rattle.board.specs.Points.{ascendingFrom, key, keysOf, infosOf, trackCount, waits, commandOf, targetOf}
-use Rattle.board.specs.Board.{eventMost, noTrack, trackAt, isPresent, Unbroken}
+use Rattle.board.specs.Board.{noTrack, trackAt, isPresent, Unbroken}
 use Rattle.board.specs.Tick.{members, Stage, staged, pointRecords, changeRecords, foundBy, stepRecords, reachedBy}
-use Rattle.board.specs.Tick.{stepMember, stepAll, commandRecords, obeyed, obeyedRecords, runAll, playingWord, tickFrom, tickOf, InfoRule}
+use Rattle.board.specs.Tick.{stepMember, stepAll, commandRecords, obeyed, obeyedRecords, runAll, playingWord, bandRecords, followWord, followAll, playFrom, tickOf, InfoRule}
 use Rattle.board.specs.Mode.{ModeResult, modeResult}
 use Rattle.board.specs.Replay.{Each}
 use Rattle.board.specs.Call.{makesOf, gridstep}
 use Rattle.board.specs.Lists.{cutUp, start, replayed}
 use Rattle.board.proofs.log.Records.{unpack-pack}
 use Rattle.board.proofs.points.Keys.{ascending-head, ascending-rest}
-use Rattle.board.proofs.rules.Broken.{present-small, unbroken-is}
+use Rattle.board.proofs.rules.Broken.{Kept, kept-banded, kept-at, present-small, unbroken-is}
 use Rattle.board.proofs.setup.Keeping.{fresh-whole}
 use Rattle.board.proofs.tick.Commands.{Goes?, grid-goes, obeyed-keeps, at-set, recordsRun, recordsIn, obeyedIn, run-apart, records-first}
-use Rattle.board.proofs.tick.Steps.{members-ascend, foundAt, steppedIn, writtenBy, stepsFrom, steps-apart, steps-at, Allowed, found-allowed, entered-sound, later-sound, step-sound}
+use Rattle.board.proofs.tick.Steps.{members-ascend, foundAt, steppedIn, writtenBy, stepsFrom, steps-apart, steps-at, play-kept, tick-apart, entered-sound, later-sound, step-sound}
+use Rattle.board.proofs.tick.Found.{Allowed, found-allowed}
+use Rattle.board.proofs.follow.Following.{bandAt, bandedIn, enteredBy, followedFrom, followed-records, each-follower}
+use Rattle.board.proofs.follow.Rules.{kept-number, kept-event}
 use Rattle.board.proofs.quiet.Players.{members-present}
 use Rattle.board.proofs.replay.Kinds.{each-append, each-follows, list-keeps}
 use Rattle.board.proofs.call.Machine.{counts, result-ways, halt-none, tick-whole, made-whole}
 use Rattle.board.proofs.advance.Advancing.{whole-points}
 
--- A record whose every field is in its range: kinds 1 to 3, and a byte for event and detail.
+-- A record whose every field is in its range: kinds 1 to 4, and a byte for event and detail.
 pub record Ranged (r : Record) : Type 0 where
   pub clock : r .clock .0 ≤ clockEnd
   pub track : r .track < trackCount
-  pub kind : (1 ≤ r .kind) × (r .kind ≤ 3)
+  pub kind : (1 ≤ r .kind) × (r .kind ≤ 4)
   pub event : r .event ≤ eventMost
   pub detail : r .detail < 256
   pub position : r .position .0 ≤ coordinateLast
@@ -203,10 +208,10 @@ module _ (b : Board) (w : Unbroken b) (below : b .clock .0 < clockEnd) where
       let s = subst (λ (k : ℕ). Sound (trackAt ts k) after) e (sound i p) in
       obeyed-keeps (λ t. Sound t after) t s (entered-sound t after s) d))))
 
-  -- every record of a tick
-  tick-ranged : Each Ranged (tickOf b .records)
-  unfolding tickFrom
-  tick-ranged =
+  -- every record of the steps and the commands
+  play-ranged : Each Ranged (playFrom ks ps clock (b .present) (b .tracks) .records)
+  unfolding playFrom
+  play-ranged =
       let is = members (playingWord (b .present) (b .tracks)) in
       let rises = members-ascend 16 0 (playingWord (b .present) (b .tracks)) in
       let s = stepsFrom ks ps clock is (b .tracks) in
@@ -216,6 +221,54 @@ module _ (b : Board) (w : Unbroken b) (below : b .clock .0 < clockEnd) where
       (commands-ranged (s .reached) (s .tracks) (r .1)
       (λ i p. steps-at ks ps clock (λ t. Sound t (b .clock)) (λ t. Sound t after) (λ t h. later-sound t (b .clock) h) (λ t h. step-sound t (b .clock) h)
       i 0 is (staged (b .tracks) [] []) rises (w .tracks i p))))
+
+  -- a band's record
+  band-ranged : (i : ℕ) (t : Track) (k : ℕ) → i < trackCount → Kept (b .present) i t after → Each Ranged (bandRecords clock i t k)
+  unfolding bandRecords Each
+  band-ranged i t k hi j =
+      cond-cases (Each Ranged) (eqb k (t .band) || eqb k 0) (λ _. tt)
+      (λ _. (
+        record {
+          clock = here;
+          track = hi;
+          kind = omega arith;
+          event = kept-event j (k - 1);
+          detail = omega (arith, kept-number j);
+          position = omega (arith, j .sound .valid .ordered);
+          passes = omega (arith, j .sound .passes);
+        },
+        tt,
+      ))
+
+  -- the followers, on tracks that keep the rules at the clock after the tick
+  followers-ranged : (is : List ℕ) (ts : List Track) → Each (λ i. (i < trackCount) × Kept (b .present) i (trackAt ts i) after) is
+      → Each Ranged (followedFrom clock is ts .records)
+  unfolding followAll Each
+  followers-ranged [] ts p = tt
+  followers-ranged (i ∷ is) ts p =
+      let t = trackAt ts i in
+      let k = bandAt i ts in
+      subst (Each Ranged) (sym (followed-records clock i is ts))
+      (each-append Ranged (enteredBy clock i ts) (followedFrom clock is (bandedIn i ts) .records) (band-ranged i t k (p .0 .0) (p .0 .1))
+      (followers-ranged is (bandedIn i ts)
+      (each-follows
+      (λ n q. (
+        q .0,
+        at-set (λ t. Kept (b .present) n t after) ts i n (banded t k) (q .1)
+            (λ e. kept-banded k (omega arith) (judged-most t (trackAt ts (t .master))) (subst (λ (m : ℕ). Kept (b .present) n (trackAt ts m) after) e (q .1))),
+      ))
+      is (p .1))))
+
+  -- every record of a tick
+  tick-ranged : Each Ranged (tickOf b .records)
+  tick-ranged =
+      let s = playFrom ks ps clock (b .present) (b .tracks) in
+      let is = members (followWord (b .present) (b .tracks)) in
+      subst (λ (x : Stage). Each Ranged (x .records)) (sym (tick-apart ks ps clock (b .present) (b .tracks)))
+      (each-append Ranged (s .records) (followedFrom clock is (s .tracks) .records) play-ranged
+      (followers-ranged is (s .tracks)
+      (each-follower (b .present) (b .tracks) (λ i. (i < trackCount) × Kept (b .present) i (trackAt (s .tracks) i) after)
+      (λ i p _. (present-small (b .present) i p, play-kept ks ps clock (b .present) (b .tracks) (b .clock) i i (kept-at b w i p))))))
 
 -- ---- every other call
 
@@ -248,6 +301,7 @@ module _ (n : ℕ) (b : Board) (w : Unbroken b) where
   call-ranged (call.Track i) = tt
   call-ranged (call.Point i p) = tt
   call-ranged (call.PointCount i from to) = tt
+  call-ranged (call.Master i m ps) = tt
 
 -- ---- the row
 

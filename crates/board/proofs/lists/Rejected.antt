@@ -34,7 +34,7 @@ use Rattle.board.proofs.lists.Cards.{fresh, printed, setUpA, logA, cloc
 -- ---- worlds, and boards that a wrong program leaves
 
 -- what calls leave of a board and a log
-abbrev after : List Call → World Board → World Board
+abbrev pub after : List Call → World Board → World Board
 after cs w = ran cs w .last
 
 -- card A set up, on a log of n bytes
@@ -46,11 +46,11 @@ abbrev played : ℕ → List Call → World Board
 played n cs = after (play 0 ∷ cs) (ready n)
 
 -- the board with so many records held
-abbrev heldAt : ℕ → Board → Board
+abbrev pub heldAt : ℕ → Board → Board
 heldAt n b = boardWith b (b .tracks) (b .present) (b .points) n
 
 -- a board that breaks the clock's range
-abbrev broken : World Board
+abbrev pub broken : World Board
 broken = world (clockAt (clockEnd + 1) freshBoard) []
 
 -- a fresh board with its clock at 999,999,999
@@ -58,7 +58,7 @@ abbrev late : World Board
 late = world (lateBoard freshBoard) []
 
 -- the position of track 0
-abbrev position : Board → ℤ
+abbrev pub position : Board → ℤ
 position b = valueOf (trackAt (b .tracks) 0 .position)
 
 -- track 0's point on its home pauses track 1, which has a point on its own home
@@ -85,7 +85,7 @@ pub record Claim : Type 0 where
   pub answer : Reply
   pub left : World Board
 
-abbrev gives : Call → World Board → Reply → World Board → Claim
+abbrev pub gives : Call → World Board → Reply → World Board → Claim
 gives c w a v = record { call = c; on = w; answer = a; left = v }
 
 -- it meets the contract of the call, or it does not
@@ -121,7 +121,7 @@ allOf a b log =
     ++ (b .clock .0 ∷ b .held ∷ b .present ∷ b .points .count ∷ log) ++ keysOf (b .points) ++ infosOf (b .points) ++ numbers (b .tracks)
 
 -- whether two rows of numbers are the same
-unfoldable alike : List ℕ → List ℕ → Bool
+unfoldable pub alike : List ℕ → List ℕ → Bool
 alike [] [] = true
 alike [] (y ∷ ys) = false
 alike (x ∷ xs) [] = false
@@ -137,14 +137,14 @@ apart xs ys h e =
     let z : _≡_ {A = ℕ} 0 1 = ap (λ (b : Bool). cond b 1 0) (sym h ∙ ap (alike xs) (sym e) ∙ itself xs) in
     omega arith
 
-unsaid : (a x : Reply) → alike (numbersOf a) (numbersOf x) ≡ false → a ≡ x → ⊥
+pub unsaid : (a x : Reply) → alike (numbersOf a) (numbersOf x) ≡ false → a ≡ x → ⊥
 unsaid a x h e = apart (numbersOf a) (numbersOf x) h (ap numbersOf e)
 
 -- whether the numbers of what a wrong program gives are those of what the call does
-unfoldable agrees : Claim → Did Reply (World Board) → Bool
+unfoldable pub agrees : Claim → Did Reply (World Board) → Bool
 agrees k d = alike (allOf (k .answer) (k .left .board) (k .left .log)) (allOf (d .answer) (d .left .board) (d .left .log))
 
-unfoldable noneAgrees : List Claim → Bool
+unfoldable pub noneAgrees : List Claim → Bool
 noneAgrees [] = true
 noneAgrees (k ∷ ks) = not (agrees k (does (k .call) (k .on))) && noneAgrees ks
 
@@ -152,7 +152,7 @@ wrong : (k : Claim) → agrees k (does (k .call) (k .on)) ≡ false → Wrong k
 unfolding agrees
 wrong k h g = apart _ _ h (λ i. allOf (g .answer-is i) (g .board-is i) (g .log-is i))
 
-refute : (ks : List Claim) → noneAgrees ks ≡ true → Refuted ks
+pub refute : (ks : List Claim) → noneAgrees ks ≡ true → Refuted ks
 unfolding noneAgrees
 refute [] h = tt
 refute (k ∷ ks) h =
@@ -282,19 +282,19 @@ pub record Rejected : Type 0 where
   -- a stop accepted with a log whose capacity is below held
   pub below-held : Unsaid (stop 0) (world (played 96 (advance 10 ∷ []) .board) (replicate 47 0)) accepted
   pub queries-refuted : Refuted queries
-  -- unpacking a kind 4 or 0, or 15 bytes
-  pub kind-4-held : (r : RecordValues) → unpackOf (sixteenBytes 4) ≡ recordIs r → ⊥
+  -- unpacking a kind 5 or 0, or 15 bytes
+  pub kind-5-held : (r : RecordValues) → unpackOf (sixteenBytes 5) ≡ recordIs r → ⊥
   pub kind-0-held : (r : RecordValues) → unpackOf (sixteenBytes 0) ≡ recordIs r → ⊥
   pub short-held : (r : RecordValues) → unpackOf (take 15 (sixteenBytes 1)) ≡ recordIs r → ⊥
-  -- packing a kind 4, highest byte first, or over the byte behind
-  pub kind-4-packed : packAnswer (printed 1 0 4 7 0 2 0) (replicate 16 0) 0 ≡ packed → ⊥
+  -- packing a kind 5, highest byte first, or over the byte behind
+  pub kind-5-packed : packAnswer (printed 1 0 5 7 0 2 0) (replicate 16 0) 0 ≡ packed → ⊥
   pub highest-first : packBytes (printed 1 0 1 7 0 2 0) (replicate 16 0) 0 ≡ (0 ∷ 0 ∷ 0 ∷ 1 ∷ 0 ∷ 1 ∷ 7 ∷ 0 ∷ 0 ∷ 0 ∷ 0 ∷ 2 ∷ 0 ∷ 0 ∷ 0 ∷ 0 ∷ []) → ⊥
   pub byte-behind : packBytes (printed 1 0 1 7 0 2 0) (replicate 17 9) 0 ≡ take 16 logA ++ (0 ∷ []) → ⊥
   -- an encoded list: a row that is no call is 3
   pub row-is-3 : (b : Board) (log : List ℕ) → Executed (replicate callWidth (pos 0)) [] (replicate replyWidth 0) b log (numbersOf (refused 3)) → ⊥
   -- the rows behind it are not executed
   pub row-ends : (log replies : List ℕ)
-      → Executed (replicate callWidth (pos 0) ++ (pos 1 ∷ pos 0 ∷ pos 0 ∷ pos 10 ∷ replicate 3 (pos 0))) [] (replicate (replyWidth + replyWidth) 0) freshBoard log replies → ⊥
+      → Executed (replicate callWidth (pos 0) ++ (pos 1 ∷ pos 0 ∷ pos 0 ∷ pos 10 ∷ replicate 10 (pos 0))) [] (replicate (replyWidth + replyWidth) 0) freshBoard log replies → ⊥
 
 -- 1, or the number of the refusal
 abbrev saidOf : LogReply → List ℕ
@@ -323,10 +323,10 @@ rejected =
       stop-stays = λ v n g. n (ap position (g .board-is));
       below-held = λ v g. unsaid accepted (refused 7) refl (g .answer-is);
       queries-refuted = refute queries refl;
-      kind-4-held = λ r e. apart (3 ∷ []) (1 ∷ []) refl (ap saidOf e);
+      kind-5-held = λ r e. apart (3 ∷ []) (1 ∷ []) refl (ap saidOf e);
       kind-0-held = λ r e. apart (3 ∷ []) (1 ∷ []) refl (ap saidOf e);
       short-held = λ r e. apart (3 ∷ []) (1 ∷ []) refl (ap saidOf e);
-      kind-4-packed = λ e. apart (3 ∷ []) (1 ∷ []) refl (ap saidOf e);
+      kind-5-packed = λ e. apart (3 ∷ []) (1 ∷ []) refl (ap saidOf e);
       highest-first = apart (take 16 logA) (0 ∷ 0 ∷ 0 ∷ 1 ∷ 0 ∷ 1 ∷ 7 ∷ 0 ∷ 0 ∷ 0 ∷ 0 ∷ 2 ∷ 0 ∷ 0 ∷ 0 ∷ 0 ∷ []) refl;
       byte-behind = apart (take 16 logA ++ (9 ∷ [])) (take 16 logA ++ (0 ∷ [])) refl;
       row-is-3 = λ b log e. apart (numbersOf (refused 3)) (numbersOf (refused 9)) refl (e .replies-are);

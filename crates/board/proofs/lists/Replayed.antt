@@ -23,14 +23,14 @@ use Rattle.board.specs.declared.call.Advanced.the-variants as advanced
 use Rattle.board.specs.declared.call.Call.{Call}
 use Rattle.board.specs.declared.call.Call.the-variants as call
 use Rattle.board.specs.Board.{freshBoard, Unbroken}
-use Rattle.board.specs.Setup.{setUp, addTrack, setPoint, dropPoint, clearBoard}
+use Rattle.board.specs.Setup.{setUp, addTrack, setPoint, dropPoint, setMaster, clearBoard}
 use Rattle.board.specs.Query.{clockOf, trackOf, pointIn, countIn}
 use Rattle.board.specs.Mode.{modeResult}
 use Rattle.board.specs.Cut.{Ran, ticks, Did, All, run, sorted, part, performs, Recut, observe}
 use Rattle.board.specs.Replay.{World, State, perform, w-bar, w-halt, w-step, replay, r-bar, r-halt, r-step, written, writtens, flat}
 use Rattle.board.specs.Replay.{shown, only, gathered, ticked, total}
 use Rattle.board.specs.Call.{Reply, refused, answered, clockSaid, trackSaid, pointSaid, countSaid, advancedSaid, Stop, ends, fills, stoppedBy}
-use Rattle.board.specs.Call.{takenIn, whyNot, barOf, barred, saysOf, makesOf, gridstep, most, runCount, advanceBy, does}
+use Rattle.board.specs.Call.{takenIn, whyNot, barOf, barred, pairNumbers, saysOf, makesOf, gridstep, most, runCount, advanceBy, does}
 use Rattle.board.specs.Call.{world, Gives}
 use Rattle.board.specs.Lists.{cutUp, start, replayed}
 use Rattle.board.specs.Arrivals.{arrivalsIn, arrivalRecord, arrivalRecords, isPoint}
@@ -39,13 +39,15 @@ use Rattle.board.proofs.replay.Replays.{shown-takes, w-kept, agrees, ro
 use Rattle.board.proofs.replay.Kinds.{kinds, gathered-length, total-same}
 use Rattle.board.proofs.call.Machine.{counts, room, kept, read, call-whole}
 use Rattle.board.proofs.call.Refusals.{silent}
+use Rattle.board.proofs.call.Enough.{SameMaster, pairsOf, pairs-enough}
 use Rattle.board.proofs.lists.Reports.{tick-points, call-points}
-use Rattle.board.proofs.call.Leaving.{add-track-leaves, set-up-leaves, set-point-leaves, drop-point-leaves, clear-leaves}
+use Rattle.board.proofs.call.Leaving.{add-track-leaves, set-up-leaves, set-point-leaves, drop-point-leaves, set-master-leaves, clear-leaves}
 use Rattle.board.proofs.call.Leaving.{clock-leaves, track-leaves, point-leaves, point-count-leaves}
 use Rattle.board.proofs.Board.add_track.Reads as add-track-says
 use Rattle.board.proofs.Board.set_up.Reads as set-up-says
 use Rattle.board.proofs.Board.set_point.Reads as set-point-says
 use Rattle.board.proofs.Board.drop_point.Reads as drop-point-says
+use Rattle.board.proofs.Board.set_master.Reads as set-master-says
 use Rattle.board.proofs.mode.play.Reads as play-says
 use Rattle.board.proofs.mode.pause.Reads as pause-says
 use Rattle.board.proofs.mode.resume.Reads as resume-says
@@ -64,7 +66,8 @@ abbrev pub Left : Reply → Board → List ℕ → Reply → World Board → Typ
 Left said b log a v = (a ≡ said) × (v ≡ world b log)
 
 -- A call, as its function's contract has it: the function is lent the board and, where it takes one, the log, and leaves them.
--- `Learnt` is what its `ensures` tells a caller, of the lifetimes, the arguments, the result and the arguments at exit.
+-- `Learnt` is what its `ensures` tells a caller, of the lifetimes, the arguments, the result and the arguments at exit. A master call
+-- is lent any numbers with which it comes to the same as with its own.
 abbrev pub Step : Call → World Board → Reply → World Board → Type 0
 Step (call.AddTrack i lo hi) w a v =
     (r : Outcome) × add-track-says.Learnt tt (w .board, (i, (lo, (hi, tt)))) r (w .board, (i, (lo, (hi, tt)))) × Left (answered (r .answer)) (r .board) (w .log) a v
@@ -105,6 +108,17 @@ Step (call.Point i p) w a v =
 Step (call.PointCount i from to) w a v =
     (r : CountRead) × point-count-says.Learnt tt (w .board, (i, (from, (to, tt)))) r (w .board, (i, (from, (to, tt))))
     × Left (countSaid r) (w .board) (w .log) a v
+Step (call.Master i m ps) w a v =
+    (κs : Lfts 1) × (x : RefT (List ℤ)) × (y : RefT (List ℤ)) × (r : Outcome)
+    × set-master-says.Learnt κs (w .board, (i, (m, (x, tt)))) r (w .board, (i, (m, (y, tt))))
+    × SameMaster (now x) (pairNumbers ps) × Left (answered (r .answer)) (r .board) (w .log) a v
+
+-- So every call of set_master is a step, whatever the numbers of its slice: however many, an odd number of them, out of range.
+pub every-master : (κs : Lfts 1) (track master : ℤ) (zs : List ℤ) (w : World Board) (x y : RefT (List ℤ)) (r : Outcome) → now x ≡ zs →
+    set-master-says.Learnt κs (w .board, (track, (master, (x, tt)))) r (w .board, (track, (master, (y, tt)))) →
+    Step (call.Master track master (pairsOf zs)) w (answered (r .answer)) (world (r .board) (w .log))
+every-master κs track master zs w x y r e h =
+    (κs, x, y, r, h, subst (λ (ys : List ℤ). SameMaster ys (pairNumbers (pairsOf zs))) (sym e) (pairs-enough zs), (refl, refl))
 
 abbrev did : Reply → World Board → Did Reply (World Board)
 did a v = record { answer = a; left = v }
@@ -133,6 +147,8 @@ step-is call.Clock w s = gives-is (s .1 (w .log)) (s .2)
 step-is (call.Track i) w s = gives-is (s .1 (w .log)) (s .2)
 step-is (call.Point i p) w s = gives-is (s .1 (w .log)) (s .2)
 step-is (call.PointCount i from to) w s = gives-is (s .1 (w .log)) (s .2)
+step-is (call.Master i m ps) w s =
+    gives-is (set-master-leaves (w .board) i m ps (s .4 ∙ s .5 (w .board) i m) (w .log)) (s .6)
 
 -- A list of calls, one after the other: each gets the board and the log as the one before it left them.
 pub data Trace : List Call → World Board → List Reply → World Board → Type 0 where
@@ -284,8 +300,11 @@ advance-said n w = go (runCount (call.Advance n))
     go none = bars (barOf (length (w .log)) (w .board))
     go (some k) = runs k (w-bar gridstep w) refl
 
+numbered : List ℤ → RefT (List ℤ)
+numbered l = record { ptr = (0, 0); name = 0; now = l }
+
 step-met : (κs : Lfts 1) (c : Call) (w : World Board) → Step c w (does c w .answer) (does c w .left)
-unfolding runCount saysOf makesOf lends
+unfolding runCount saysOf makesOf lends numbered
 step-met κs (call.AddTrack i lo hi) w = let l = add-track-leaves (w .board) i lo hi refl in (addTrack (w .board) i lo hi, l, gives-left (l (w .log)))
 step-met κs (call.SetUp i c) w = let l = set-up-leaves (w .board) i c refl in (setUp (w .board) i c, l, gives-left (l (w .log)))
 step-met κs (call.SetPoint i p e f c g) w = let l = set-point-leaves (w .board) i p e f c g refl in (setPoint (w .board) i p e f c g, l, gives-left (l (w .log)))
@@ -303,6 +322,9 @@ step-met κs call.Clear w = let l = clear-leaves (w .board) refl in (clearBoard 
 step-met κs call.Clock w = let l = clock-leaves (w .board) refl in (clockOf (w .board), l, gives-left (l (w .log)))
 step-met κs (call.Track i) w = let l = track-leaves (w .board) i refl in (trackOf (w .board) i, l, gives-left (l (w .log)))
 step-met κs (call.Point i p) w = let l = point-leaves (w .board) i p refl in (pointIn (w .board) i p, l, gives-left (l (w .log)))
+step-met κs (call.Master i m ps) w =
+    let l = set-master-leaves (w .board) i m ps refl in
+    (κs, numbered (pairNumbers ps), numbered (pairNumbers ps), setMaster (w .board) i m (pairNumbers ps), refl, λ b t k. refl, gives-left (l (w .log)))
 step-met κs (call.PointCount i from to) w = let l = point-count-leaves (w .board) i from to refl in (countIn (w .board) i from to, l, gives-left (l (w .log)))
 
 -- what any function promises to give for a call is a step of it

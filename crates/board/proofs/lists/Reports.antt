@@ -1,7 +1,7 @@
 -- The records of kind 1: a tick writes one for each arrival and no other, and no other call writes one.
 use Prim.Native.Nat.{ℕ, suc, _+_, _≤_}
 use mathlib.Core.Path.{_≡_, refl, sym, _∙_, ap}
-use mathlib.Core.Bool.{Bool, true, false, cond}
+use mathlib.Core.Bool.{Bool, true, false, cond, _||_}
 use mathlib.Core.List.{List, [], _∷_, _++_, map, map-append, append-nil}
 use native.Mathlib.Omega.{arith}
 use lib.Dec.{eqb}
@@ -22,14 +22,15 @@ use Rattle.board.specs.Points.{ascendingFrom, keysOf, infosOf, waits, co
 use Rattle.board.specs.Board.{trackAt, noTrack}
 use Rattle.board.specs.Tick.{members}
 use Rattle.board.specs.Tick.{Stage, pointRecords, changeRecords, foundBy, stepRecords, reachedBy, stepMember}
-use Rattle.board.specs.Tick.{stepAll, commandRecords, obeyedRecords, runAll, playingWord, tickFrom, tickOf}
+use Rattle.board.specs.Tick.{stepAll, commandRecords, obeyedRecords, runAll, playingWord, bandRecords, followWord, followAll, playFrom, tickOf}
 use Rattle.board.specs.Mode.{ModeResult, modeResult}
 use Rattle.board.specs.Replay.{only}
 use Rattle.board.specs.Call.{makesOf}
 use Rattle.board.specs.Arrivals.{Arrival, arrivalAt, arrivalsOf, arrivalRecord, arrivalRecords, isPoint}
 use Rattle.board.proofs.points.Keys.{ascending-head, ascending-rest}
 use Rattle.board.proofs.tick.Commands.{recordsRun, recordsIn, obeyedIn, run-apart, records-first}
-use Rattle.board.proofs.tick.Steps.{members-ascend, foundAt, steppedIn, writtenBy, stepsFrom, steps-apart}
+use Rattle.board.proofs.tick.Steps.{members-ascend, foundAt, steppedIn, writtenBy, stepsFrom, steps-apart, tick-apart}
+use Rattle.board.proofs.follow.Following.{bandAt, bandedIn, enteredBy, followedFrom, followed-records}
 use Rattle.board.proofs.replay.Kinds.{only-append}
 use Rattle.board.proofs.call.Machine.{result-ways}
 
@@ -57,6 +58,18 @@ commands-none clock [] ts = refl
 commands-none clock (d ∷ ds) ts =
     ap (only isPoint) (records-first clock d ds ts) ∙ only-append isPoint (recordsIn clock d ts) (recordsRun clock ds (obeyedIn d ts))
     ∙ (λ j. obeyed-none clock d (trackAt ts (targetOf d)) j ++ commands-none clock ds (obeyedIn d ts) j)
+
+-- a band's record is of kind 4
+band-none : (clock i : ℕ) (t : Track) (band : ℕ) → only isPoint (bandRecords clock i t band) ≡ []
+unfolding bandRecords
+band-none clock i t band = cond-cases (λ (rs : List Record). only isPoint rs ≡ []) (eqb band (t .band) || eqb band 0) (λ _. refl) (λ _. refl)
+
+followers-none : (clock : ℕ) (is : List ℕ) (ts : List Track) → only isPoint (followedFrom clock is ts .records) ≡ []
+unfolding followAll
+followers-none clock [] ts = refl
+followers-none clock (i ∷ is) ts =
+    ap (only isPoint) (followed-records clock i is ts) ∙ only-append isPoint (enteredBy clock i ts) (followedFrom clock is (bandedIn i ts) .records)
+    ∙ (λ j. band-none clock i (trackAt ts i) (bandAt i ts) j ++ followers-none clock is (bandedIn i ts) j)
 
 -- ---- the steps
 
@@ -109,10 +122,10 @@ module _ (b : Board) where
 
 -- ---- the laws
 
--- a tick's records of kind 1 are one for each arrival
-pub tick-points : (b : Board) → only isPoint (tickOf b .records) ≡ arrivalRecords b
-unfolding tickFrom
-tick-points b =
+-- the records of kind 1 of the steps and the commands are one for each arrival
+play-points : (b : Board) → only isPoint (playFrom (ks b) (ps b) (clock b) (b .present) (b .tracks) .records) ≡ arrivalRecords b
+unfolding playFrom
+play-points b =
     let word = playingWord (b .present) (b .tracks) in
     let s = stepsFrom (ks b) (ps b) (clock b) (members word) (b .tracks) in
     ap (λ (x : Stage). only isPoint (x .records)) (run-apart (clock b) (s .reached) (s .tracks) (s .records) (s .reached))
@@ -120,6 +133,17 @@ tick-points b =
     ∙ ap (λ (l : List Record). only isPoint (s .records) ++ l) (commands-none (clock b) (s .reached) (s .tracks))
     ∙ append-nil (only isPoint (s .records))
     ∙ steps-points b 0 (members word) (b .tracks) (members-ascend trackCount 0 word) (λ j _. refl)
+
+-- and so are those of the tick
+pub tick-points : (b : Board) → only isPoint (tickOf b .records) ≡ arrivalRecords b
+tick-points b =
+    let s = playFrom (ks b) (ps b) (clock b) (b .present) (b .tracks) in
+    let is = members (followWord (b .present) (b .tracks)) in
+    ap (λ (x : Stage). only isPoint (x .records)) (tick-apart (ks b) (ps b) (clock b) (b .present) (b .tracks))
+    ∙ only-append isPoint (s .records) (followedFrom (clock b) is (s .tracks) .records)
+    ∙ ap (λ (l : List Record). only isPoint (s .records) ++ l) (followers-none (clock b) is (s .tracks))
+    ∙ append-nil (only isPoint (s .records))
+    ∙ play-points b
 
 mode-none : (b : Board) (n : ℕ) (track : ℤ) (code : ℕ) → only isPoint (modeResult b n track code .records) ≡ []
 mode-none b n =
@@ -143,3 +167,4 @@ call-points call.Clock n b = refl
 call-points (call.Track i) n b = refl
 call-points (call.Point i p) n b = refl
 call-points (call.PointCount i from to) n b = refl
+call-points (call.Master i m ps) n b = refl

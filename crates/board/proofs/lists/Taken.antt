@@ -22,15 +22,15 @@ use Rattle.board.specs.declared.query.CountRead.the-variants as count
 use Rattle.board.specs.declared.call.Call.{Call}
 use Rattle.board.specs.declared.call.Call.the-variants as call
 use Rattle.board.specs.Board.{freshBoard}
-use Rattle.board.specs.Setup.{setUp, addTrack, setPoint, dropPoint, clearBoard}
+use Rattle.board.specs.Setup.{setUp, addTrack, setPoint, dropPoint, setMaster, clearBoard}
 use Rattle.board.specs.Query.{clockOf, trackOf, pointIn, countIn}
 use Rattle.board.specs.Mode.{ModeResult, modeResult}
 use Rattle.board.specs.Cut.{Ran, ticks, Part, run, one, part, performs}
 use Rattle.board.specs.Replay.{World, w-halt, w-bar, w-step, perform, total}
-use Rattle.board.specs.Call.{Reply, refused, answered, clockSaid, trackSaid, pointSaid, countSaid, Stop, stoppedBy, takenIn, barOf, barred, saysOf}
+use Rattle.board.specs.Call.{Reply, refused, answered, clockSaid, trackSaid, pointSaid, countSaid, Stop, stoppedBy, takenIn, barOf, barred, pairNumbers, saysOf}
 use Rattle.board.specs.Call.{makesOf, gridstep, most, runCount, advanceBy, does, world}
 use Rattle.board.specs.Lists.{cutUp}
-use Rattle.board.proofs.setup.Ways.{set-up-ways, add-track-ways, set-point-ways, drop-point-ways, clear-ways}
+use Rattle.board.proofs.setup.Ways.{set-up-ways, add-track-ways, set-point-ways, drop-point-ways, set-master-ways, clear-ways}
 use Rattle.board.proofs.replay.Cuts.{ticks-on, ticks-off, advance-in, advance-out}
 use Rattle.board.proofs.call.Machine.{result-ways, read}
 use Rattle.board.proofs.lists.Replayed.{Trace, trace-is}
@@ -81,6 +81,7 @@ no-ticks call.Clock n b = taken-clock (clockOf b)
 no-ticks (call.Track i) n b = taken-track (trackOf b i)
 no-ticks (call.Point i p) n b = taken-point (pointIn b i p)
 no-ticks (call.PointCount i from to) n b = taken-count (countIn b i from to)
+no-ticks (call.Master i m ps) n b = taken-answered (setMaster b i m (pairNumbers ps) .answer)
 
 module _ (n : ℕ) (b : Board) where
   -- the clock is what it was
@@ -108,6 +109,7 @@ module _ (n : ℕ) (b : Board) where
   same-clock (call.Track i) = refl
   same-clock (call.Point i p) = refl
   same-clock (call.PointCount i from to) = refl
+  same-clock (call.Master i m ps) = set-master-ways b Same (λ k. refl) i m (pairNumbers ps) (λ j l _ _ _ _ _ _. refl)
 
 -- ---- the growth of the clock
 

@@ -170,12 +170,12 @@ pub unpack-refuses-length : (s : List ℕ) → (length s ≡ recordWidth → ⊥
 unfolding unpackOf
 unpack-refuses-length s h = simp (ne-eqb (length s) recordWidth h)
 
--- another kind than 1 to 3 is refused 3
+-- another kind than 1 to 4 is refused 3
 pub unpack-refuses-kind : (s : List ℕ) → kindTest (getD s 5 0) ≡ false → unpackOf s ≡ refused 3
 unfolding unpackOf
 unpack-refuses-kind s h = ap (λ (b : Bool). cond b (recordIs (spelled s)) (refused 3)) (and-false (eqb (length s) recordWidth) h)
 
--- 16 bytes of kind 1 to 3 are the record that they spell
+-- 16 bytes of kind 1 to 4 are the record that they spell
 pub unpack-holds : (s : List ℕ) → length s ≡ recordWidth → kindTest (getD s 5 0) ≡ true → unpackOf s ≡ recordIs (spelled s)
 unfolding unpackOf
 unpack-holds s l k = simp (eq-eqb (length s) recordWidth l, k)

@@ -29,11 +29,11 @@ use Rattle.board.proofs.points.Keys.{same-or-not}
 use Rattle.board.specs.declared.Board.{Board}
 use Rattle.board.specs.declared.setup.Outcome.{Outcome}
 use Rattle.board.specs.Board.{trackAt, noTrack, isPresent, unbrokenTest, foundIn, Unbroken}
-use Rattle.board.specs.Setup.{refused, boardWith, putTrack, setUp, addTrack}
+use Rattle.board.specs.Setup.{refused, boardWith, putTrack, setUp, addTrack, setMaster}
 use Rattle.board.proofs.rules.Broken.{present-small}
 use Rattle.board.proofs.rules.Present.{found-in}
 use Rattle.board.proofs.setup.Keeping.{present-added, present-others}
-use Rattle.board.proofs.setup.Ways.{by-natural, add-track-ways, set-point-ways, drop-point-ways, clear-ways}
+use Rattle.board.proofs.setup.Ways.{by-natural, add-track-ways, set-point-ways, drop-point-ways, set-master-ways, clear-ways}
 use Rattle.board.proofs.tick.Commands.{at-set}
 use Rattle.board.specs.Mode.{ModeResult, declined, callRecords, changing, changesTo, decided, modeResult}
 use Rattle.board.specs.Log.{capacity}
@@ -42,7 +42,7 @@ use Rattle.board.specs.declared.call.Call.the-variants as call
 use Rattle.board.specs.Cut.{ticks, passed, Part, run, one, performs}
 use Rattle.board.specs.Replay.{World, w-halt, w-bar, w-step, perform}
 use Rattle.board.proofs.replay.Cuts.{ticks-on, ticks-off, passed-on, passed-off, advance-in, advance-out, crossed-in, crossed-out}
-use Rattle.board.specs.Call.{answered, Stop, stoppedBy, saysOf, makesOf, gridstep}
+use Rattle.board.specs.Call.{answered, Stop, stoppedBy, pairNumbers, saysOf, makesOf, gridstep}
 use Rattle.board.specs.Call as does
 use Rattle.board.proofs.call.Machine.{halt-none, tick-whole, call-whole}
 use Rattle.board.specs.premo.Automaton.{Act, exc, offers, after, Path}
@@ -146,6 +146,12 @@ module _ (b : Board) (whole : Unbroken b) (i : ℕ) where
       (λ (n : i ≡ j → ⊥). rw (present-others (b .present) j l absent i n, getD-set-other (b .tracks) j i (newTrack low high) noTrack n))
       (same-or-not i j))
 
+  -- a track that gets a master keeps its mode
+  mastered : (track master : ℤ) (zs : List ℤ) → modeOf (setMaster b track master zs .board) i ≡ mode
+  mastered track master zs =
+      set-master-ways b (λ (o : Outcome). modeOf (o .board) i ≡ mode) (λ _. refl) track master zs
+      (λ j m _ _ _ _ _ _. placed j _ (λ q. ap (λ (n : ℕ). trackAt (b .tracks) n .mode) (sym q)))
+
   -- a change keeps the mode, and a jump is accepted only where it is offered
   change-path : (t : Track) (c : Change) → Path (t .mode) (cond (isRefusal (answered (changedBy t c .answer))) (exc ∷ []) (changeActs c)) (t .mode)
   unfolding changedBy permits settled offers after Path
@@ -226,6 +232,7 @@ module _ (b : Board) (whole : Unbroken b) (i : ℕ) where
   call-path (call.Point track p) n = kept-path (call.Point track p) n refl refl
   call-path (call.PointCount track from to) n =
       kept-path (call.PointCount track from to) n refl refl
+  call-path (call.Master track master ps) n = kept-path (call.Master track master ps) n refl (mastered track master (pairNumbers ps))
 
 -- ---- lists of calls
 

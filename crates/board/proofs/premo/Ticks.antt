@@ -23,10 +23,12 @@ use Rattle.board.specs.Board.{trackAt, noTrack, isPresent, Unbroken}
 use Rattle.board.proofs.rules.Broken.{present-small, unbroken-is}
 use Rattle.board.specs.Tick.{members}
 use Rattle.board.specs.Replay.{Each}
-use Rattle.board.specs.Tick.{Stage, staged, reachedBy, playingWord, foundBy, stepMember, stepAll, commanded, obeyed, runAll, tickFrom, tickOf}
+use Rattle.board.specs.Tick.{Stage, staged, reachedBy, playingWord, foundBy, stepMember, stepAll, commanded, obeyed, runAll, followWord, playFrom, tickFrom, tickOf}
 use Rattle.board.proofs.tick.Commands.{obeyedIn, tracksRun, run-apart, tracks-first}
+use Rattle.board.proofs.follow.Following.{follow-keeps}
 use Rattle.board.proofs.quiet.Players.{members-present}
-use Rattle.board.proofs.tick.Steps.{members-ascend, foundAt, steppedIn, writtenBy, stepsFrom, steps-apart, steps-below, steps-long, found-target}
+use Rattle.board.proofs.tick.Steps.{members-ascend, foundAt, steppedIn, writtenBy, stepsFrom, steps-apart, steps-below, steps-long}
+use Rattle.board.proofs.tick.Found.{found-target}
 use Rattle.board.specs.Call.{ticked}
 use Rattle.board.proofs.advance.Advancing.{whole-points}
 use Rattle.board.specs.Arrivals.{Arrival, arrivalAt, arrivalsOf}
@@ -259,9 +261,18 @@ module _ (b : Board) (whole : Unbroken b) (i : ℕ) where
       go true e = step-path before (infoMet b i) (plays-is b i (whole .shape .tracks) e .0)
       go false e = refl
 
-  present-path : isPresent (b .present) i ≡ true
-      → Path (before .mode) (cond (plays b i) (stepActs before (infoMet b i)) [] ++ commandActs i (reachedIn b) stepped) (trackAt (tickOf b .tracks) i .mode)
+  abbrev played : Stage
+  played = playFrom (ks b) (ps b) (clock b) (b .present) (b .tracks)
+
+  -- the third pass leaves every mode
+  played-mode : trackAt (tickOf b .tracks) i .mode ≡ trackAt (played .tracks) i .mode
   unfolding tickFrom
+  played-mode =
+      follow-keeps (clock b) (λ t. t .mode ≡ trackAt (played .tracks) i .mode) (λ t m e. e) i (members (followWord (b .present) (b .tracks))) played refl
+
+  present-path : isPresent (b .present) i ≡ true
+      → Path (before .mode) (cond (plays b i) (stepActs before (infoMet b i)) [] ++ commandActs i (reachedIn b) stepped) (trackAt (played .tracks) i .mode)
+  unfolding playFrom
   present-path h =
       let word = playingWord (b .present) (b .tracks) in
       let s = stepsFrom (ks b) (ps b) (clock b) (members word) (b .tracks) in
@@ -288,5 +299,5 @@ module _ (b : Board) (whole : Unbroken b) (i : ℕ) where
   tick-path = go (isPresent (b .present) i) refl
     where
       go : (p : Bool) → isPresent (b .present) i ≡ p → Path (cond p (before .mode) STOPPED) (tickActs i b) (cond p (trackAt (tickOf b .tracks) i .mode) STOPPED)
-      go true e = present-path e
+      go true e = subst (Path (before .mode) (tickActs i b)) (sym played-mode) (present-path e)
       go false e = rw (absent-acts e) refl

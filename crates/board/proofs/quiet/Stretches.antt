@@ -1,5 +1,6 @@
--- Quiet ticks are a leap, and the tick after the longest leap writes a record or stops a track.
-use Prim.Native.Nat.{ℕ, zero, suc, _+_, _/_, _%_, _<_}
+-- Quiet ticks are a leap, and the tick after the longest leap writes a record, stops a track or changes a band, or behind it lies a tick in
+-- which a track of a follower's pair leaves its line.
+use Prim.Native.Nat.{ℕ, zero, suc, _+_, _/_, _%_, _≤_, _<_}
 use mathlib.Core.Path.{_≡_, refl, sym, ap, subst, _∙_}
 use mathlib.Core.Logic.{_⊎_, inl, inr, ⊎-elim}
 use mathlib.Core.Bool.{Bool, true, false, _||_, true≢false}
@@ -12,19 +13,25 @@ use Rattle.track.specs.declared.Track.{Track}
 use Rattle.track.specs.Rule.{PLAYING, Valid}
 use Rattle.track.specs.Walk.{arrival, passesAt, stops, visited, step}
 use Rattle.track.specs.Leap.{leap}
+use Rattle.track.specs.Follow.{judged}
 use Rattle.track.proofs.Leaps.{leap-zero, leap-suc, leap-valid}
 use Rattle.board.specs.declared.log.Record.{Record}
 use Rattle.board.specs.Points.{key, waits, trackCount}
 use Rattle.board.specs.Board.{noTrack, trackAt}
 use Rattle.board.specs.Tick.{keep, members}
-use Rattle.board.specs.Tick.{pointRecords, changeRecords, playBit, playingWord, Stage, staged, foundBy, stepRecords, reachedBy, stepMember, stepAll, runAll, tickFrom}
+use Rattle.board.specs.Tick.{pointRecords, changeRecords, playBit, playingWord, Stage, staged, foundBy, stepRecords, reachedBy, stepMember, stepAll, runAll, playFrom, followWord, followAll, tickFrom}
 use Rattle.board.specs.Replay.{Each}
-use Rattle.board.specs.Quiet.{Some, NonzeroInfos, reaches, endsQuiet, QuietFor, Fewest, Leapable, leapTracks}
+use Rattle.board.specs.Steady.{SteadyFor, TurnsBackWithin, goes}
+use Rattle.board.specs.Quiet.{Some, NonzeroInfos, reaches, endsQuiet, QuietFor, masterOf, Fewest, Leapable, leapTracks}
+use Rattle.board.proofs.points.Keys.{lt-or-ge}
 use Rattle.board.proofs.points.Table.{info-none}
 use Rattle.board.proofs.tick.Commands.{run-more}
 use Rattle.board.proofs.tick.Steps.{steps-more}
+use Rattle.board.proofs.follow.Following.{Still, follow-still, follow-adds}
 use Rattle.board.proofs.quiet.Players.{EachPlaying, SomePlaying, players, bit-plays, members-playing, longer, each-implies, each-both, each-playing, some-playing, some-member}
-use Rattle.board.proofs.quiet.Leaps.{leap-tracks-long, leap-tracks-word, leap-tracks-add, leapable-valid, each-leapt, some-leapt}
+use Rattle.board.proofs.quiet.Leaps.{leap-tracks-long, leap-tracks-word, leap-tracks-zero, leap-tracks-add, leapable-valid, each-leapt, some-leapt}
+use Rattle.board.proofs.quiet.Bands.{leap-follow-word}
+use Rattle.board.proofs.quiet.Pairs.{Mastered, steady-still, unsteady-changes, all-or-one, some-either}
 
 -- ---- one track
 
@@ -74,13 +81,13 @@ module _ (ks ds : List ℕ) (clock : ℕ) where
 
   -- ---- a quiet tick
 
-  abbrev Still : ℕ → Track → Type 0
-  Still n t = Valid t × (endsQuiet ks n t ≡ false)
+  abbrev Calm : ℕ → Track → Type 0
+  Calm n t = Valid t × (endsQuiet ks n t ≡ false)
 
   module _ (n present : ℕ) (pre : List Track) (t : Track) (ts : List Track) (l : length pre ≡ n)
       (ih : (y : Track) → stepAll ks ds clock (players (suc n) (present / 2) ts) (staged (pre ++ y ∷ ts) [] [])
       ≡ staged (pre ++ y ∷ leapTracks 1 (present / 2) ts) [] []) where
-    quiet-head : (d : ℕ) → playBit (present % 2) t ≡ d → (0 < playBit (present % 2) t → Still n t)
+    quiet-head : (d : ℕ) → playBit (present % 2) t ≡ d → (0 < playBit (present % 2) t → Calm n t)
         → stepAll ks ds clock (players n present (t ∷ ts)) (staged (pre ++ t ∷ ts) [] []) ≡ staged (pre ++ leapTracks 1 present (t ∷ ts)) [] []
     unfolding players stepAll leapTracks
     quiet-head zero e q = rw e (ih t)
@@ -95,7 +102,7 @@ module _ (ks ds : List ℕ) (clock : ℕ) where
         ∙ ap (λ (us : List Track). staged us [] []) (set-at pre t ts (leap t 1) n l))
         ∙ ih (leap t 1))
 
-  quiet-list : (n present : ℕ) (pre ts : List Track) → length pre ≡ n → EachPlaying Still n present ts
+  quiet-list : (n present : ℕ) (pre ts : List Track) → length pre ≡ n → EachPlaying Calm n present ts
       → stepAll ks ds clock (players n present ts) (staged (pre ++ ts) [] []) ≡ staged (pre ++ leapTracks 1 present ts) [] []
   unfolding players EachPlaying stepAll leapTracks
   quiet-list n present pre [] l a = refl
@@ -107,10 +114,10 @@ module _ (ks ds : List ℕ) (clock : ℕ) where
       ∙ ap (λ (us : List Track). staged us [] []) (append-snoc pre y (leapTracks 1 (present / 2) ts)))
       (playBit (present % 2) t) refl (a .0)
 
-  tick-list : (present : ℕ) (ts : List Track) → length ts ≡ trackCount → EachPlaying Still 0 present ts
-      → tickFrom ks ds clock present ts ≡ staged (leapTracks 1 present ts) [] []
-  unfolding tickFrom runAll
-  tick-list present ts l a =
+  play-list : (present : ℕ) (ts : List Track) → length ts ≡ trackCount → EachPlaying Calm 0 present ts
+      → playFrom ks ds clock present ts ≡ staged (leapTracks 1 present ts) [] []
+  unfolding playFrom runAll
+  play-list present ts l a =
       ap (λ (s : Stage). runAll clock (s .reached) s)
       (ap (λ (ms : List ℕ). stepAll ks ds clock ms (staged ts [] [])) (members-playing present ts l) ∙ quiet-list 0 present [] ts refl a)
 
@@ -182,54 +189,134 @@ module _ (ks ds : List ℕ) (clock : ℕ) where
         (λ y rs′ qs′ b. rw (append-snoc pre y ts) at (ends-quiet-list (suc n) (present / 2) (pre ++ (y ∷ [])) ts (longer pre y l) rs′ qs′ b))
         (playBit (present % 2) t) refl a
 
-    tick-ends-quiet : (present : ℕ) (ts : List Track) → length ts ≡ trackCount → SomePlaying EndsQuiet 0 present ts
-        → (0 < length (tickFrom ks ds clock present ts .records)) ⊎ SomePlaying Stops 0 present ts
-    unfolding tickFrom
-    tick-ends-quiet present ts l a =
+    play-ends-quiet : (present : ℕ) (ts : List Track) → length ts ≡ trackCount → SomePlaying EndsQuiet 0 present ts
+        → (0 < length (playFrom ks ds clock present ts .records)) ⊎ SomePlaying Stops 0 present ts
+    unfolding playFrom
+    play-ends-quiet present ts l a =
         let s = stepAll ks ds clock (members (playingWord present ts)) (staged ts [] []) in
         let g = run-more clock (s .reached) s in
         ⊎-elim (λ (w : 0 < length (s .records)). inl (omega arith)) inr
         (rw (members-playing present ts l) (ends-quiet-list 0 present [] ts refl [] [] a))
 
+-- ---- the tracks of a list of numbers
+
+-- one step more is quiet
+longer-quiet : (ks : List ℕ) (r : ℕ) (ts : List Track) (is : List ℕ) → Each (λ i. QuietFor ks r i (trackAt ts i)) is
+    → Each (λ i. endsQuiet ks i (leap (trackAt ts i) r) ≡ false) is → Each (λ i. QuietFor ks (suc r) i (trackAt ts i)) is
+unfolding Each
+longer-quiet ks r ts [] q e = tt
+longer-quiet ks r ts (i ∷ is) q e = (
+  λ j h. ⊎-elim (λ (l : j < r). q .0 j l)
+      (λ (l : r ≤ j). let k : j ≡ r = omega arith in subst (λ (n : ℕ). endsQuiet ks i (leap (trackAt ts i) n) ≡ false) (sym k) (e .0))
+      (lt-or-ge j r),
+  longer-quiet ks r ts is (q .1) (e .1),
+)
+
+-- if one changes its band, not all are still
+none-still : (ts : List Track) (is : List ℕ) → Some (λ i. Still ts i → ⊥) is → Each (Still ts) is → ⊥
+unfolding Each Some
+none-still ts [] s e = s
+none-still ts (i ∷ is) (inl s) e = s (e .0)
+none-still ts (i ∷ is) (inr s) e = none-still ts is s (e .1)
+
 -- ---- the laws that an advance uses
 
-module _ (ks ds : List ℕ) (present : ℕ) (ts : List Track) (l : length ts ≡ trackCount) (leapable : Leapable ts (members (playingWord present ts))) where
+module _ (ks ds : List ℕ) (present : ℕ) (ts : List Track) (l : length ts ≡ trackCount) (leapable : Leapable ts (members (playingWord present ts)))
+    (mastered : Mastered present ts (members (followWord present ts))) where
   abbrev word : ℕ
   word = playingWord present ts
+
+  abbrev led : ℕ
+  led = followWord present ts
+
+  -- the followers keep their bands in the next r ticks, if these are quiet
+  abbrev Steady : ℕ → Type 0
+  Steady r = Each (λ i. SteadyFor r (trackAt ts i) (masterOf ts i)) (members led)
 
   quiet-playing : (r : ℕ) → Each (λ i. QuietFor ks r i (trackAt ts i)) (members word)
       → EachPlaying (λ n t. Valid t × QuietFor ks r n t) 0 present ts
   quiet-playing r q =
       each-both (λ n t. Valid t) (QuietFor ks r) 0 present ts (leapable-valid present ts l leapable) (each-playing (QuietFor ks r) present ts l q)
 
-  -- a tick in which no step ends the quiet writes no record, reaches no point, and is a step of each
-  pub quiet-tick : (clock : ℕ) → Each (λ i. endsQuiet ks i (trackAt ts i) ≡ false) (members word)
-      → tickFrom ks ds clock present ts ≡ staged (leapTracks 1 present ts) [] []
-  quiet-tick clock q =
-      tick-list ks ds clock present ts l
-      (each-both (λ n t. Valid t) (λ n t. endsQuiet ks n t ≡ false) 0 present ts (leapable-valid present ts l leapable)
-      (each-playing (λ n t. endsQuiet ks n t ≡ false) present ts l q))
-
-  -- each of r quiet ticks is one step more of the leap
-  pub stretch-ticks : (r : ℕ) → Each (λ i. QuietFor ks r i (trackAt ts i)) (members word) → (clock j : ℕ) → j < r
-      → tickFrom ks ds clock present (leapTracks j present ts) ≡ staged (leapTracks (suc j) present ts) [] []
-  stretch-ticks r q clock j h =
+  -- the steps of r quiet ticks
+  stretch-plays : (r : ℕ) → Each (λ i. QuietFor ks r i (trackAt ts i)) (members word) → (clock j : ℕ) → j < r
+      → playFrom ks ds clock present (leapTracks j present ts) ≡ staged (leapTracks (suc j) present ts) [] []
+  stretch-plays r q clock j h =
       let e : j + 1 ≡ suc j = omega arith in
-      tick-list ks ds clock present (leapTracks j present ts) (leap-tracks-long j present ts ∙ l)
-      (each-leapt (Still ks ds clock) j 0 present ts
-      (each-implies (λ n t. Valid t × QuietFor ks r n t) (λ n t. Still ks ds clock n (leap t j))
+      play-list ks ds clock present (leapTracks j present ts) (leap-tracks-long j present ts ∙ l)
+      (each-leapt (Calm ks ds clock) j 0 present ts
+      (each-implies (λ n t. Valid t × QuietFor ks r n t) (λ n t. Calm ks ds clock n (leap t j))
       (λ n t p. (leap-valid t (p .0) j, p .1 j h)) 0 present ts (quiet-playing r q)))
       ∙ ap (λ (us : List Track). staged us [] []) (leap-tracks-add present ts l leapable j 1 ∙ ap (λ (k : ℕ). leapTracks k present ts) e)
 
-  -- after the fewest quiet ticks, unless they are all that were asked for, the next writes a record or stops a playing track
-  pub maximal : NonzeroInfos ks ds → (clock a r : ℕ) → Fewest ks ts (members word) a r → r < a
-      → (0 < length (tickFrom ks ds clock present (leapTracks r present ts) .records))
-      ⊎ Some (λ i. stops (trackAt (leapTracks r present ts) i) ≡ true) (members word)
-  maximal tell clock a r f h =
-      let ls = leap-tracks-long r present ts ∙ l in
-      ⊎-elim inl
-      (λ s.
-      inr
-      (rw (leap-tracks-word r present ts) at (some-member (λ n t. stops t ≡ true) present (leapTracks r present ts) ls s)))
-      (tick-ends-quiet ks ds clock tell present (leapTracks r present ts) ls
-      (some-leapt (λ n t. endsQuiet ks n t ≡ true) r 0 present ts (some-playing (λ n t. endsQuiet ks n (leap t r) ≡ true) present ts l (f .exact h))))
+  -- each of r quiet ticks writes no record, reaches no point, and is one step more of the leap
+  pub stretch-ticks : (r : ℕ) → Each (λ i. QuietFor ks r i (trackAt ts i)) (members word) → Steady r → (clock j : ℕ) → j < r
+      → tickFrom ks ds clock present (leapTracks j present ts) ≡ staged (leapTracks (suc j) present ts) [] []
+  unfolding tickFrom
+  stretch-ticks r q s clock j h =
+      (λ i. followAll clock (members (leap-follow-word j present ts i)) (stretch-plays r q clock j h i))
+      ∙ follow-still clock (members led) (staged (leapTracks (suc j) present ts) [] [])
+      (steady-still present ts r (suc j) (omega arith) h (members led) mastered s)
+
+  -- one quiet tick is a step of each
+  pub quiet-tick : (clock : ℕ) → Each (λ i. QuietFor ks 1 i (trackAt ts i)) (members word) → Steady 1
+      → tickFrom ks ds clock present ts ≡ staged (leapTracks 1 present ts) [] []
+  quiet-tick clock q s =
+      ap (λ (us : List Track). tickFrom ks ds clock present us) (sym (leap-tracks-zero present ts l leapable)) ∙ stretch-ticks 1 q s clock 0 (omega arith)
+
+  -- ---- after the fewest quiet ticks
+
+  module _ (clock r : ℕ) where
+    -- the tracks then, and the steps and the commands of the next tick
+    abbrev pub leapt : List Track
+    leapt = leapTracks r present ts
+
+    abbrev pub played : Stage
+    played = playFrom ks ds clock present leapt
+
+    -- why they end: the next tick writes a record, a playing track stops in it, a follower's band changes in it, or in one of the ticks up to it
+    -- a track of a follower's pair leaves its line
+    abbrev pub Ending : Type 0
+    Ending =
+        (0 < length (tickFrom ks ds clock present leapt .records))
+        ⊎ (Some (λ i. stops (trackAt leapt i) ≡ true) (members word)
+        ⊎ ((Each (Still (played .tracks)) (members led) → ⊥)
+        ⊎ Some (λ i. TurnsBackWithin (suc r) (trackAt ts i) (masterOf ts i)) (members led)))
+
+    -- the third pass takes no record back
+    play-written : 0 < length (played .records) → 0 < length (tickFrom ks ds clock present leapt .records)
+    unfolding tickFrom
+    play-written h = omega (arith, follow-adds clock (members (followWord present leapt)) played)
+
+    module _ (tell : NonzeroInfos ks ds) where
+      -- a step ends the quiet
+      loud-ending : Some (λ i. endsQuiet ks i (leap (trackAt ts i) r) ≡ true) (members word) → Ending
+      loud-ending s =
+          let ls = leap-tracks-long r present ts ∙ l in
+          ⊎-elim (λ w. inl (play-written w))
+          (λ s.
+          inr (inl
+          (rw (leap-tracks-word r present ts) at (some-member (λ n t. stops t ≡ true) present leapt ls s))))
+          (play-ends-quiet ks ds clock tell present leapt ls
+          (some-leapt (λ n t. endsQuiet ks n t ≡ true) r 0 present ts (some-playing (λ n t. endsQuiet ks n (leap t r) ≡ true) present ts l s)))
+
+      -- one tick more would be quiet but for a band
+      calm-ending : Each (λ i. QuietFor ks r i (trackAt ts i)) (members word) → Each (λ i. endsQuiet ks i (leap (trackAt ts i) r) ≡ false) (members word)
+          → Some (λ i. judged (goes (suc r) (trackAt ts i)) (goes (suc r) (masterOf ts i)) ≡ trackAt ts i .band → ⊥) (members led) → Ending
+      calm-ending q e s =
+          let p = stretch-plays (suc r) (longer-quiet ks r ts (members word) q e) clock r (omega arith) in
+          inr (inr (inl
+          (subst (λ (x : Stage). Each (Still (x .tracks)) (members led) → ⊥) (sym p)
+          (none-still (leapTracks (suc r) present ts) (members led) (unsteady-changes present ts (suc r) (members led) mastered s)))))
+
+      -- after the fewest quiet ticks, unless they are all that were asked for
+      pub maximal : (a : ℕ) → Fewest ks ts (members word) (members led) a r → r < a → Ending
+      maximal a f h =
+          ⊎-elim loud-ending
+          (λ u.
+          ⊎-elim
+          (λ s.
+          ⊎-elim (λ e. calm-ending (f .quiet) e s) loud-ending (all-or-one (λ i. endsQuiet ks i (leap (trackAt ts i) r)) (members word)))
+          (λ s. inr (inr (inr s)))
+          (some-either _ _ (members led) u))
+          (f .exact h)

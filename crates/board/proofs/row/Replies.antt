@@ -2,17 +2,21 @@
 use Prim.Native.Nat.{ℕ}
 use mathlib.Core.Path.{_≡_, refl, sym, _∙_, ap, subst}
 use mathlib.Core.Bool.{cond}
-use mathlib.Core.List.{List, _∷_}
+use mathlib.Core.List.{List, _∷_, _++_, append-assoc}
 use lib.Dec.{eqb}
 use lib.ListN.{length, take, drop, getD}
-use lib.Seq.{take-at}
+use lib.Seq.{take-at, drop-at}
 use Rattle.track.specs.declared.Track.{Track}
-use Rattle.track.specs.Rule.{cellCount}
+use Rattle.track.specs.Rule.{cellCount, thresholdCount}
 use Rattle.board.specs.declared.points.Point.{Point}
 use Rattle.board.specs.Call.{TrackValues, PointValues, trackValues, pointValues}
 use Rattle.board.specs.Call.{Reply, accepted, refused, done, logFull, clockEnded, clockIs, trackIs, pointIs, countIs}
-use Rattle.board.specs.Row.{padded, numbersOf}
+use Rattle.board.specs.Row.{padded, cellsAt, numbersOf}
 use Rattle.board.proofs.row.Encoding.{track-coordinates, point-coordinate}
+
+-- what a row's numbers say behind a track's cells
+abbrev behindCells : List ℕ → List ℕ
+behindCells xs = drop cellCount (drop cellsAt xs)
 
 -- the track and the point that a row's numbers say
 abbrev trackIn : List ℕ → Track
@@ -29,7 +33,11 @@ trackIn xs =
       direction = getD xs 9 0;
       repeat = getD xs 10 0;
       due = getD xs 11 0;
-      actions = take cellCount (drop 12 xs);
+      actions = take cellCount (drop cellsAt xs);
+      master = getD (behindCells xs) 0 0;
+      band = getD (behindCells xs) 1 0;
+      thresholds = take thresholdCount (drop 2 (behindCells xs));
+      events = take thresholdCount (drop thresholdCount (drop 2 (behindCells xs)));
     }
 
 abbrev pointIn : List ℕ → Point
@@ -56,7 +64,11 @@ replyIn xs =
     (cond (eqb kind 6) (trackIs (trackValues (trackIn xs)))
     (cond (eqb kind 7) (pointIs (pointValues (pointIn xs))) (countIs (getD xs 1 0)))))))))
 
--- a reply tells the values of a track with its sixteen cells, or of a point
+-- a track with its sixteen cells, its four thresholds and their events
+abbrev pub Whole : Track → Type 0
+Whole t = (length (t .actions) ≡ cellCount) × (length (t .thresholds) ≡ thresholdCount) × (length (t .events) ≡ thresholdCount)
+
+-- a reply tells the values of such a track, or of a point
 abbrev pub Told : Reply → Type 0
 Told accepted = Unit {0}
 Told (refused n) = Unit {0}
@@ -64,13 +76,28 @@ Told (done n) = Unit {0}
 Told (logFull n) = Unit {0}
 Told (clockEnded n) = Unit {0}
 Told (clockIs c held) = Unit {0}
-Told (trackIs v) = (t : Track) × (v ≡ trackValues t) × (length (t .actions) ≡ cellCount)
+Told (trackIs v) = (t : Track) × (v ≡ trackValues t) × Whole t
 Told (pointIs v) = (p : Point) × (v ≡ pointValues p)
 Told (countIs n) = Unit {0}
 
-track-back : (t : Track) → length (t .actions) ≡ cellCount → replyIn (numbersOf (trackIs (trackValues t))) ≡ trackIs (trackValues t)
+-- what stands behind the head of a track's row, the zeros at its end among it
+behind : (cells ths evs rest : List ℕ) (m k : ℕ) →
+    (cells ++ (m ∷ k ∷ ths ++ evs)) ++ rest ≡ cells ++ (m ∷ k ∷ ths ++ (evs ++ rest))
+behind cells ths evs rest m k =
+    append-assoc cells (m ∷ k ∷ ths ++ evs) rest ∙ ap (λ (r : List ℕ). cells ++ (m ∷ k ∷ r)) (append-assoc ths evs rest)
+
+track-back : (t : Track) → Whole t → replyIn (numbersOf (trackIs (trackValues t))) ≡ trackIs (trackValues t)
 unfolding replyIn
-track-back t h = ap (λ (ns : List ℕ). replyIn (padded (6 ∷ ns))) (sym (track-coordinates t)) ∙ rw (take-at (t .actions) _ cellCount h)
+track-back t h =
+    ap (λ (ns : List ℕ). replyIn (padded (6 ∷ ns))) (sym (track-coordinates t))
+    ∙ rw (
+      behind (t .actions) (t .thresholds) (t .events) _ (t .master) (t .band),
+      take-at (t .actions) _ cellCount (h .0),
+      drop-at (t .actions) _ cellCount (h .0),
+      take-at (t .thresholds) _ thresholdCount (h .1),
+      drop-at (t .thresholds) _ thresholdCount (h .1),
+      take-at (t .events) _ thresholdCount (h .2),
+    )
 
 point-back : (p : Point) → replyIn (numbersOf (pointIs (pointValues p))) ≡ pointIs (pointValues p)
 unfolding replyIn

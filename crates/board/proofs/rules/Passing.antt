@@ -12,13 +12,14 @@ use lib.Seq.{drop-cons, length-take-le, getD-take}
 use borrow.Author.Tests.{le-leb, lt-leb, eq-eqb, ne-eqb}
 use Rattle.track.specs.declared.Track.{Track}
 use Rattle.track.specs.declared.Ticks.{Ticks}
-use Rattle.track.specs.Rule.{clockEnd, soundTest}
+use Rattle.track.specs.Rule.{clockEnd, soundTest, eventMost}
+use Rattle.track.specs.Follow.{followerTest}
 use Rattle.track.specs.declared.number.Natural.the-variants as natural
 use Rattle.track.specs.Number.{naturalOf}
 use Rattle.board.specs.declared.points.Point.{Point}
 use Rattle.board.specs.Board.{foundIn}
 use Rattle.board.specs.Points.{pointMost, stride, pointOf, eventOf, waitOf, commandOf, targetOf, keyEnd, infoEnd}
-use Rattle.board.specs.Board.{eventMost, noTrack, trackAt, isPresent, tracksTest, placeTest, allowedTest, pointsTest, shapeTest, unbrokenParts}
+use Rattle.board.specs.Board.{noTrack, trackAt, isPresent, masterTest, trackTest, tracksTest, placeTest, allowedTest, pointsTest, shapeTest, unbrokenParts}
 use Rattle.board.proofs.rules.Broken.{present-not}
 
 -- the length of an array of structs, from what its row tells
@@ -38,18 +39,46 @@ module _ (xs : List ℕ) (n i : ℕ) (l : n ≤ length xs) where
 
 -- ---- the tracks
 
-module _ (word : ℕ) (ts : List Track) (i : ℕ) (clock : Ticks) where
-  pub tracks-next : i < length ts → {b : Bool} → b ≡ (not (eqb (word % 2) 1) || soundTest (trackAt ts i) clock) → b ≡ true →
-      tracksTest (word / 2) (drop (i + 1) ts) clock ≡ tracksTest word (drop i ts) clock
+module _ (present i : ℕ) (t : Track) where
+  pub master-none : getD (t .thresholds) 0 0 ≡ 0 → eqb (t .master) 0 ≡ masterTest present i t
+  unfolding masterTest
+  master-none h = simp (eq-eqb _ _ h)
+
+  module _ (h : getD (t .thresholds) 0 0 ≡ 0 → ⊥) where
+    pub master-self : t .master ≡ i → false ≡ masterTest present i t
+    unfolding masterTest
+    master-self e = simp (ne-eqb _ _ h, eq-eqb _ _ e, and-false)
+
+    pub master-other : (t .master ≡ i → ⊥) → isPresent present (t .master) ≡ masterTest present i t
+    unfolding masterTest
+    master-other n = simp (ne-eqb _ _ h, ne-eqb _ _ n, and-true)
+
+  module _ (clock : Ticks) {a : Bool} (e : a ≡ soundTest t clock) where
+    pub track-unsound : a ≡ false → false ≡ trackTest present i t clock
+    unfolding trackTest
+    track-unsound h = simp (← e, h)
+
+    module _ (h : a ≡ true) {b : Bool} (q : b ≡ followerTest t clock) where
+      pub track-unled : b ≡ false → false ≡ trackTest present i t clock
+      unfolding trackTest
+      track-unled g = simp (← e, h, ← q, g)
+
+      pub track-master : b ≡ true → {r : Bool} → r ≡ masterTest present i t → r ≡ trackTest present i t clock
+      unfolding trackTest
+      track-master g m = m ∙ simp (← e, h, ← q, g)
+
+module _ (present word : ℕ) (ts : List Track) (i : ℕ) (clock : Ticks) where
+  pub tracks-next : i < length ts → {b : Bool} → b ≡ (not (eqb (word % 2) 1) || trackTest present i (trackAt ts i) clock) → b ≡ true →
+      tracksTest present (word / 2) (i + 1) (drop (i + 1) ts) clock ≡ tracksTest present word i (drop i ts) clock
   unfolding tracksTest
   tracks-next l e h = rw (add-one, drop-cons ts i noTrack l, ← e, h)
 
-  pub tracks-bad : i < length ts → {b : Bool} → b ≡ (not (eqb (word % 2) 1) || soundTest (trackAt ts i) clock) → b ≡ false →
-      false ≡ tracksTest word (drop i ts) clock
+  pub tracks-bad : i < length ts → {b : Bool} → b ≡ (not (eqb (word % 2) 1) || trackTest present i (trackAt ts i) clock) → b ≡ false →
+      false ≡ tracksTest present word i (drop i ts) clock
   unfolding tracksTest
   tracks-bad l e h = rw (drop-cons ts i noTrack l, ← e, h)
 
-  pub tracks-end : length ts ≤ i → true ≡ tracksTest word (drop i ts) clock
+  pub tracks-end : length ts ≤ i → true ≡ tracksTest present word i (drop i ts) clock
   unfolding tracksTest
   tracks-end l = rw (drop-of-length-le ts {i = i} l)
 
@@ -175,11 +204,11 @@ module _ (present : ℕ) (ts : List Track) (clock : Ticks) (keys infos : List �
   unfolding unbrokenParts shapeTest
   parts-infos h = simp (ne-eqb _ _ h, and-false)
 
-  pub parts-tracks : {b : Bool} → b ≡ tracksTest present ts clock → b ≡ false → false ≡ unbrokenParts present ts clock keys infos n
+  pub parts-tracks : {b : Bool} → b ≡ tracksTest present present 0 ts clock → b ≡ false → false ≡ unbrokenParts present ts clock keys infos n
   unfolding unbrokenParts
   parts-tracks e h = simp (← e, h, and-false)
 
-  pub parts-points : clock .0 ≤ clockEnd → n ≤ pointMost → {b r : Bool} → b ≡ tracksTest present ts clock → b ≡ true →
+  pub parts-points : clock .0 ≤ clockEnd → n ≤ pointMost → {b r : Bool} → b ≡ tracksTest present present 0 ts clock → b ≡ true →
       r ≡ pointsTest present ts 0 (take n keys) (take n infos) → shapeTest present ts keys infos ≡ true → r ≡ unbrokenParts present ts clock keys infos n
   unfolding unbrokenParts
   parts-points c l e h q s = q ∙ simp (le-leb _ _ c, le-leb _ _ l, ← e, h, s, and-true)

@@ -17,7 +17,7 @@ use borrow.Author.Tests.{eqb-true, eq-eqb, ne-eqb, leb-true, ltb-true, le-leb, l
 use Rattle.track.specs.Number.{naturalOf, onNatural, onPlace, within, coordinateOf, valueOf, clampedOf}
 use Rattle.track.specs.declared.number.Natural.{Natural}
 use Rattle.track.specs.declared.number.Natural.the-variants as natural
-use Rattle.board.specs.Board.{isPresent, eventMost, Unbroken, PointRule, trackAt, allowedTest, placeTest}
+use Rattle.board.specs.Board.{isPresent, Unbroken, PointRule, trackAt, allowedTest, placeTest}
 use Rattle.track.specs.declared.Coordinate.{Coordinate}
 use Rattle.track.specs.declared.Track.{Track}
 use Rattle.track.specs.declared.number.Place.{Place}
@@ -28,7 +28,7 @@ use Rattle.board.specs.declared.points.Stored.{Stored}
 use Rattle.board.specs.declared.setup.Outcome.{Outcome}
 use Rattle.board.specs.declared.setup.Described.{Described}
 use Rattle.board.specs.declared.setup.Described.the-variants as described
-use Rattle.track.specs.Rule.{coordinateLast}
+use Rattle.track.specs.Rule.{coordinateLast, eventMost}
 use Rattle.track.proofs.Numbers.{between-clamped, clamped-most, natural-in, within-in, back}
 use Rattle.track.proofs.Tests.{both, both-is, same-tests}
 use Rattle.board.specs.Points.{stride, keysOf, infosOf, infoAt, pointOf, countOf, between, commandOf, targetOf, keyEnd, infoEnd}

@@ -15,21 +15,25 @@ use Rattle.track.specs.declared.Track.{Track}
 use Rattle.track.specs.declared.setup.Change.{Change}
 use Rattle.track.specs.Rule.{Sound, newTrack}
 use Rattle.track.specs.Setup.{changedBy}
-use Rattle.track.proofs.Setups.{changed-keeps, new-valid}
+use Rattle.track.specs.Follow.{Follower, following}
+use Rattle.track.proofs.Setups.{changed-keeps, new-valid, new-follower}
+use Rattle.track.proofs.Follows.{SameFollower, follower-same, following-sound}
 use Rattle.board.specs.declared.Board.{Board}
 use Rattle.board.specs.declared.points.Point.{Point}
 use Rattle.board.specs.declared.points.Points.{Points}
 use Rattle.board.specs.declared.setup.Outcome.{Outcome}
 use Rattle.board.specs.Points.{ascendingFrom, noPoints, pointOf, keyOf, infoOf, storedIn, droppedFrom, trackCount}
-use Rattle.board.specs.Board.{trackAt, noTrack, isPresent, PointRule, Unbroken, unbrokenTest, freshBoard}
+use Rattle.board.specs.Board.{trackAt, noTrack, isPresent, masterTest, PointRule, Unbroken, unbrokenTest, freshBoard}
 use Rattle.board.specs.Setup.{boardWith, setUp, addTrack, setPoint, dropPoint, clearBoard}
-use Rattle.board.proofs.rules.Broken.{present-small, present-set, present-bit, half-bit}
+use Rattle.board.specs.Setup.{rangedTest, thresholdsIn, eventsIn, risingTest, rowOf, masterNamed, setMaster}
+use Rattle.board.proofs.rules.Broken.{present-small, present-set, present-bit, half-bit, master-same, master-still}
 use Rattle.board.proofs.rules.Present.{with-track-fits}
 use Rattle.board.proofs.points.Keys.{same-or-not}
 use Rattle.board.proofs.points.Packing.{point-back}
 use Rattle.board.proofs.points.Table.{Sorted, EachPoint}
 use Rattle.board.proofs.points.Storing.{stored-sorted, stored-each, dropped-sorted, dropped-each}
-use Rattle.board.proofs.setup.Ways.{set-up-ways, add-track-ways, set-point-ways, drop-point-ways, clear-ways}
+use Rattle.board.proofs.setup.Ways.{set-up-ways, add-track-ways, set-point-ways, drop-point-ways, set-master-ways, clear-ways}
+use Rattle.board.proofs.master.Pairs.{pairs-rising, rising-few, master-kept}
 
 -- ---- the word with one track more
 
@@ -102,16 +106,25 @@ EntryRule word ts k d = PointRule word ts (pointOf k d)
 module _ (b : Board) (w : Unbroken b) where
   -- a track put in the place i, present beside those that were, whose bounds are not moved
   placed : (i : ℕ) (u : Track) (word : ℕ) → i < trackCount → word < 2 ^ trackCount → Sound u (b .clock) →
+      Follower u (b .clock) → masterTest word i u ≡ true →
       ((j : ℕ) → isPresent word j ≡ true → (j ≡ i → ⊥) → isPresent (b .present) j ≡ true) →
       ((j : ℕ) → isPresent (b .present) j ≡ true → isPresent word j ≡ true) →
       (isPresent (b .present) i ≡ true → SameBounds u (trackAt (b .tracks) i)) →
       Unbroken (boardWith b (set (b .tracks) i u) word (b .points) (b .held))
-  placed i u word l fits sound was still bounds = record {
+  placed i u word l fits sound follower master was still bounds = record {
     shape = record { tracks = length-set (b .tracks) i u ∙ w .shape .tracks; present = fits; keys = w .shape .keys; infos = w .shape .infos };
     clock = w .clock;
     tracks = λ j h.
         ⊎-elim (λ (e : j ≡ i). rw (e, here) sound)
         (λ (n : j ≡ i → ⊥). rw (there j n) (w .tracks j (was j h n)))
+        (same-or-not j i);
+    followers = λ j h.
+        ⊎-elim (λ (e : j ≡ i). rw (e, here) follower)
+        (λ (n : j ≡ i → ⊥). rw (there j n) (w .followers j (was j h n)))
+        (same-or-not j i);
+    masters = λ j h.
+        ⊎-elim (λ (e : j ≡ i). rw (e, here) master)
+        (λ (n : j ≡ i → ⊥). rw (there j n) (master-still (b .present) word j (trackAt (b .tracks) j) still (w .masters j (was j h n))))
         (same-or-not j i);
     count = w .count;
     points = λ j m. rule-kept (b .present) word (b .tracks) (set (b .tracks) i u) _ still same (w .points j m);
@@ -130,12 +143,13 @@ module _ (b : Board) (w : Unbroken b) where
           (λ (n : j ≡ i → ⊥). rw (there j n) (refl, refl))
           (same-or-not j i)
 
-  -- a board stays unbroken with a sound track in the place of a present one with the same bounds
-  pub put-track-whole : (i : ℕ) (u : Track) → isPresent (b .present) i ≡ true → Sound u (b .clock) →
+  -- a board stays unbroken with a sound track in the place of a present one with the same bounds, a follower as that is
+  pub put-track-whole : (i : ℕ) (u : Track) → isPresent (b .present) i ≡ true → Sound u (b .clock) → SameFollower (trackAt (b .tracks) i) u →
       u .min ≡ trackAt (b .tracks) i .min → u .max ≡ trackAt (b .tracks) i .max →
       Unbroken (boardWith b (set (b .tracks) i u) (b .present) (b .points) (b .held))
-  put-track-whole i u h sound low high =
-      placed i u (b .present) (present-small (b .present) i h) (w .shape .present) sound (λ j k n. k) (λ j k. k) (λ _. (low, high))
+  put-track-whole i u h sound same low high =
+      placed i u (b .present) (present-small (b .present) i h) (w .shape .present) sound (follower-same same (w .followers i h))
+      (master-same (b .present) i same ∙ w .masters i h) (λ j k n. k) (λ j k. k) (λ _. (low, high))
 
   -- a board stays unbroken with any number of records held
   pub held-whole : (held : ℕ) → Unbroken (boardWith b (b .tracks) (b .present) (b .points) held)
@@ -143,6 +157,8 @@ module _ (b : Board) (w : Unbroken b) where
     shape = record { tracks = w .shape .tracks; present = w .shape .present; keys = w .shape .keys; infos = w .shape .infos };
     clock = w .clock;
     tracks = w .tracks;
+    followers = w .followers;
+    masters = w .masters;
     count = w .count;
     points = w .points;
     order = w .order;
@@ -165,6 +181,8 @@ module _ (b : Board) (w : Unbroken b) where
     shape = record { tracks = w .shape .tracks; present = w .shape .present; keys = s .keys-long; infos = s .infos-long };
     clock = w .clock;
     tracks = w .tracks;
+    followers = w .followers;
+    masters = w .masters;
     count = s .most;
     points = each;
     order = s .ascending;
@@ -179,15 +197,16 @@ module _ (b : Board) (w : Unbroken b) where
       (λ i h.
       let s = w .tracks i h in
       let k = changed-keeps (trackAt (b .tracks) i) (s .valid) c in
-      put-track-whole i (changedBy (trackAt (b .tracks) i) c .track) h (record { valid = k .valid; passes = omega arith }) (k .min) (k .max))
+      put-track-whole i (changedBy (trackAt (b .tracks) i) c .track) h (record { valid = k .valid; passes = omega arith }) (k .follower) (k .min) (k .max))
 
   -- no track that is added breaks a board
   pub add-track-whole : (number min max : ℤ) → Unbroken (addTrack b number min max .board)
-  unfolding newTrack
+  unfolding newTrack masterTest
   add-track-whole number min max =
       add-track-ways b (λ (o : Outcome). Unbroken (o .board)) (λ n. w) number min max
       (λ i low high l absent order last.
       placed i (newTrack low high) (b .present + 2 ^ i) l (with-track-fits (b .present) i (w .shape .present) l absent) (record { valid = new-valid low high order last; passes = omega arith })
+      (new-follower low high (b .clock)) refl
       (λ j h n. sym (present-others (b .present) i l absent j n) ∙ h)
       (present-still (b .present) i l absent)
       (λ h. absurd (true≢false (sym h ∙ absent))))
@@ -209,6 +228,25 @@ module _ (b : Board) (w : Unbroken b) where
       (λ k _. put-points-whole (droppedFrom (b .points) k .points) (dropped-sorted (b .points) k sorted)
       (dropped-each (EntryRule (b .present) (b .tracks)) (b .points) k sorted (w .points)))
 
+  -- no master that is set breaks a board
+  pub set-master-whole : (track master : ℤ) (zs : List ℤ) → Unbroken (setMaster b track master zs .board)
+  set-master-whole track master zs =
+      set-master-ways b (λ (o : Outcome). Unbroken (o .board)) (λ n. w) track master zs
+      (λ i m here there _ other ranged rises.
+      let xs = rowOf (thresholdsIn zs) in
+      let es = rowOf (eventsIn zs) in
+      let t = trackAt (b .tracks) i in
+      placed i (following t (masterNamed m zs) xs es) (b .present) (present-small (b .present) i here) (w .shape .present)
+      (following-sound (masterNamed m zs) xs es (w .tracks i here))
+      (record {
+        thresholds = refl;
+        events = refl;
+        pairs = pairs-rising zs ranged (rising-few zs ranged rises) ∙ rises;
+        band = omega arith;
+        start = λ z. refl;
+      })
+      (master-kept (b .present) i m t zs there other ranged) (λ j k n. k) (λ j k. k) (λ _. (refl, refl)))
+
   -- clearing breaks no board
   pub clear-whole : Unbroken (clearBoard b .board)
   clear-whole = clear-ways b (λ (o : Outcome). Unbroken (o .board)) (λ n. w) (held-whole 0)
@@ -220,6 +258,8 @@ fresh-whole = record {
   shape = record { tracks = refl; present = omega arith; keys = refl; infos = refl };
   clock = omega arith;
   tracks = λ i h. absurd (omega (arith, present-set 0 i h, zero-div (2 ^ i)));
+  followers = λ i h. absurd (omega (arith, present-set 0 i h, zero-div (2 ^ i)));
+  masters = λ i h. absurd (omega (arith, present-set 0 i h, zero-div (2 ^ i)));
   count = omega arith;
   points = λ j l. absurd (not-suc-le-zero l);
   order = refl;

@@ -6,7 +6,9 @@ use native.Mathlib.Omega.{arith}
 use lib.Dec.{ltb, eqb}
 use lib.IntN.{ℤ}
 use lib.ListN.{set}
-use borrow.Author.Tests.{ltb-true}
+use mathlib.Core.List.{List}
+use mathlib.Core.Bool.{not, _&&_}
+use borrow.Author.Tests.{ltb-true, eqb-true, eqb-false, not-true}
 use Rattle.track.specs.declared.Track.{Track}
 use Rattle.track.specs.declared.Coordinate.{Coordinate}
 use Rattle.track.specs.declared.number.Natural.{Natural}
@@ -17,10 +19,11 @@ use Rattle.track.specs.declared.setup.Answer.the-variants.{Refused}
 use Rattle.track.specs.declared.setup.Change.{Change}
 use Rattle.track.specs.declared.setup.Change.the-variants as change
 use Rattle.track.specs.declared.setup.Changed.{Changed}
-use Rattle.track.specs.Rule.{coordinateLast, newTrack}
+use Rattle.track.specs.Rule.{STOPPED, coordinateLast, newTrack}
+use Rattle.track.specs.Follow.{following}
 use Rattle.track.specs.Number.{naturalOf, coordinateOf, within, onNatural, onPlace}
 use Rattle.track.specs.Setup.{settled, permits, startSet, endSet, loopsSet, repeatSet, directionSet, actionSet, jumpTo, setBy, changedBy}
-use Rattle.track.proofs.Tests.{cond-cases}
+use Rattle.track.proofs.Tests.{cond-cases, both}
 use Rattle.track.proofs.Numbers.{natural-in, value-coordinate}
 use Rattle.board.specs.declared.Board.{Board}
 use Rattle.board.specs.declared.points.Point.{Point}
@@ -31,6 +34,7 @@ use Rattle.board.specs.declared.setup.Described.the-variants as describe
 use Rattle.board.specs.Points.{key, keyOf, infoOf, storedIn, droppedFrom, trackCount}
 use Rattle.board.specs.Board.{trackAt, isPresent, PointRule, unbrokenTest, foundIn}
 use Rattle.board.specs.Setup.{accepted, refused, boardWith, onUnbroken, onTrack, putTrack, putPoints, onDescribed, describedBy, setUp, addTrack, setPoint, dropPoint, clearBoard}
+use Rattle.board.specs.Setup.{rangedTest, thresholdsIn, eventsIn, risingTest, rowOf, masterNamed, putMaster, setMaster}
 use Rattle.board.proofs.rules.Present.{found-in}
 use Rattle.board.proofs.setup.Guards.{described-rule}
 
@@ -47,7 +51,7 @@ by-place : {A : Type 0} (P : A → Type 0) (p : Place) (f : Coordinate → A) (x
 by-place P (place.At c) f x does other = does c refl
 by-place P place.Outside f x does other = other
 
--- ---- the five calls
+-- ---- the six calls
 
 module _ (b : Board) (P : Outcome → Type 0) (declines : (n : ℕ) → P (refused n b)) where
   on-board : {o : Outcome} → P o → P (onUnbroken b o)
@@ -112,10 +116,35 @@ module _ (b : Board) (P : Outcome → Type 0) (declines : (n : ℕ) → P (refus
       (λ _. by-place P (coordinateOf position) _ (refused 4 b)
       (λ l _. on-points 4 (droppedFrom (b .points) (key i (l .0))) (does (key i (l .0)))) (declines 4)) (λ _. declines 2)))
 
+  -- a master is refused, or is another present track, with pairs in their ranges that rise
+  pub set-master-ways : (track master : ℤ) (zs : List ℤ) →
+      ((i m : ℕ) → isPresent (b .present) i ≡ true → isPresent (b .present) m ≡ true → trackAt (b .tracks) i .mode ≡ STOPPED → (i ≡ m → ⊥) →
+      rangedTest zs ≡ true → risingTest (thresholdsIn zs) ≡ true →
+      P (accepted (boardWith b
+      (set (b .tracks) i (following (trackAt (b .tracks) i) (masterNamed m zs) (rowOf (thresholdsIn zs)) (rowOf (eventsIn zs))))
+      (b .present) (b .points) (b .held)))) → P (setMaster b track master zs)
+  unfolding setMaster putMaster
+  set-master-ways track master zs does =
+      on-board
+      (on-track track _
+      (λ i here. on-track master _
+      (λ m there. cond-cases P (eqb (trackAt (b .tracks) i .mode) STOPPED)
+      (λ mode. cond-cases P (not (eqb i m) && rangedTest zs)
+      (λ h.
+      let q = both (not (eqb i m)) (rangedTest zs) h in
+      cond-cases P (risingTest (thresholdsIn zs))
+      (does i m here there (eqb-true _ _ mode) (eqb-false i m (not-true _ (q .0))) (q .1)) (λ _. declines 10)) (λ _. declines 3)) (λ _. declines 2))))
+
   -- a clear is refused, or sets held to 0
   pub clear-ways : P (accepted (boardWith b (b .tracks) (b .present) (b .points) 0)) → P (clearBoard b)
   unfolding clearBoard
   clear-ways does = on-board does
+
+-- a master that is refused leaves the board equal
+pub set-master-refused : (b : Board) (track master : ℤ) (zs : List ℤ) {n : ℕ} → setMaster b track master zs .answer ≡ Refused n →
+    setMaster b track master zs .board ≡ b
+set-master-refused b track master zs {n} =
+    set-master-ways b (λ (o : Outcome). o .answer ≡ Refused n → o .board ≡ b) (λ k e. refl) track master zs (λ i m _ _ _ _ _ _ e. cc)
 
 -- a change that is refused leaves the track equal
 pub changed-refused : (t : Track) (c : Change) {n : ℕ} → changedBy t c .answer ≡ Refused n → changedBy t c .track ≡ t

@@ -21,7 +21,8 @@ use native.Mathlib.Nat.{
 use native.Mathlib.Omega.{arith}
 use lib.Dec.{ltb}
 use borrow.Author.Tests.{ltb-true, ltb-false}
-use Rattle.board.specs.Stay.{apart, Divisor, Ends, Rounds}
+use Rattle.track.specs.Follow.{apart}
+use Rattle.board.specs.Stay.{Divisor, Covers, Rounds}
 
 pub lt-or : (a b : ℕ) → (a < b) ⊎ (b ≤ a)
 lt-or a b = go (ltb a b) refl
@@ -104,7 +105,7 @@ module _ (g : ℕ) (some : 0 < g) where
 
 module _ (p q l k g lo hi : ℕ) (u : Divisor l k g) (hl : 0 < l) (hk : 0 < k) where
   -- the first is c ahead modulo g, the second d
-  turning : (c d r : ℕ) → c < g → d < g → (q + c) % g ≡ p % g → (p + d) % g ≡ q % g → Ends c (l - g) d (k - g) lo hi r → Rounds p q l k lo hi r
+  turning : (c d r : ℕ) → c < g → d < g → (q + c) % g ≡ p % g → (p + d) % g ≡ q % g → Covers c (l - g) d (k - g) lo hi r → Rounds p q l k lo hi r
   turning c d r hc hd ec ed s = record { small = s .small; within = λ h n. go h n (lt-or ((p + n) % l) ((q + n) % k)) }
     where
       go : 0 < r → (n : ℕ) → ((p + n) % l < (q + n) % k) ⊎ ((q + n) % k ≤ (p + n) % l)
@@ -122,17 +123,17 @@ module _ (p q l k g lo hi : ℕ) (u : Divisor l k g) (hl : 0 < l) (hk : 0 < k) w
           let b = s .high h in
           (omega arith, omega arith)
 
-  pub rounds-more : (r : ℕ) → q % g < p % g → Ends (p % g - q % g) (l - g) (g - (p % g - q % g)) (k - g) lo hi r → Rounds p q l k lo hi r
+  pub rounds-more : (r : ℕ) → q % g < p % g → Covers (p % g - q % g) (l - g) (g - (p % g - q % g)) (k - g) lo hi r → Rounds p q l k lo hi r
   rounds-more r h =
       let a = mod-lt p (u .some) in
       turning (p % g - q % g) (g - (p % g - q % g)) r (omega arith) (omega arith) (rest-is g (u .some) p q _ (omega arith))
       (rest-over g (u .some) q p _ (omega arith))
 
-  pub rounds-less : (r : ℕ) → p % g < q % g → Ends (g - (q % g - p % g)) (l - g) (q % g - p % g) (k - g) lo hi r → Rounds p q l k lo hi r
+  pub rounds-less : (r : ℕ) → p % g < q % g → Covers (g - (q % g - p % g)) (l - g) (q % g - p % g) (k - g) lo hi r → Rounds p q l k lo hi r
   rounds-less r h =
       let a = mod-lt q (u .some) in
       turning (g - (q % g - p % g)) (q % g - p % g) r (omega arith) (omega arith) (rest-over g (u .some) p q _ (omega arith))
       (rest-is g (u .some) q p _ (omega arith))
 
-  pub rounds-same : (r : ℕ) → p % g ≤ q % g → q % g ≤ p % g → Ends 0 (l - g) 0 (k - g) lo hi r → Rounds p q l k lo hi r
+  pub rounds-same : (r : ℕ) → p % g ≤ q % g → q % g ≤ p % g → Covers 0 (l - g) 0 (k - g) lo hi r → Rounds p q l k lo hi r
   rounds-same r h i = turning 0 0 r (u .some) (u .some) (rest-is g (u .some) p q 0 (omega arith)) (rest-is g (u .some) q p 0 (omega arith))

@@ -2,29 +2,30 @@
 use Prim.Native.Nat.{ℕ, zero, suc, _+_, _-_, _*_, _/_, _≤_, _<_}
 use mathlib.Core.Path.{_≡_, refl, sym, ap, _∙_}
 use mathlib.Core.Logic.{_⊎_, inl, inr, ⊎-elim}
-use native.Mathlib.Nat.{suc-mul, mul-zero, zero-mul, mul-add, mul-sub, le-div-iff-mul-le, lt-div-mul-add}
+use native.Mathlib.Nat.{suc-mul, mul-zero, zero-mul, mul-add, le-div-iff-mul-le, lt-div-mul-add}
 use native.Mathlib.Omega.{arith}
 use mathlib.Core.Bool.{Bool, true, false}
 use lib.Dec.{leb}
 use borrow.Author.Tests.{leb-true, leb-false}
 use Rattle.track.specs.Rule.{clockEnd}
-use Rattle.board.specs.Stay.{apart, Known, Above, Below, Fits, Stays}
+use Rattle.track.specs.Follow.{apart}
+use Rattle.board.specs.Stay.{Known, Above, Below, Between, Stays}
 
 -- numbers that are known so are from lo to hi apart
-pub fits-apart : (x y w lo hi a b : ℕ) → Known x y w a b → Fits x y w lo hi → (lo ≤ apart a b) × (apart a b ≤ hi)
-fits-apart x y w lo hi a b k (inr f) = omega arith
-fits-apart x y w lo hi a b k (inl f) = go (f .off)
+pub between-apart : (x y w lo hi a b : ℕ) → Known x y w a b → Between x y w lo hi → (lo ≤ apart a b) × (apart a b ≤ hi)
+between-apart x y w lo hi a b k (inr f) = omega arith
+between-apart x y w lo hi a b k (inl f) = go (f .off)
   where
     go : (lo ≡ 0) ⊎ (y + lo ≤ x) → (lo ≤ apart a b) × (apart a b ≤ hi)
     go (inl e) = omega (arith, f .low, f .high)
     go (inr e) = omega (arith, f .low, f .high)
 
 -- and the other way, where they are known whole
-pub apart-fits : (x y lo hi : ℕ) → (lo ≤ apart x y) × (apart x y ≤ hi) → Fits x y 0 lo hi
-apart-fits x y zero hi h = inl (record { off = inl refl; low = omega arith; high = omega arith })
-apart-fits x y (suc lo) hi h = go (leb y x) refl
+pub apart-between : (x y lo hi : ℕ) → (lo ≤ apart x y) × (apart x y ≤ hi) → Between x y 0 lo hi
+apart-between x y zero hi h = inl (record { off = inl refl; low = omega arith; high = omega arith })
+apart-between x y (suc lo) hi h = go (leb y x) refl
   where
-    go : (b : Bool) → leb y x ≡ b → Fits x y 0 (suc lo) hi
+    go : (b : Bool) → leb y x ≡ b → Between x y 0 (suc lo) hi
     go true e = let l = leb-true y x e in inl (record { off = inr (omega arith); low = omega arith; high = omega arith })
     go false e = let l = leb-false y x e in inr (record { off = omega arith; low = omega arith })
 
@@ -44,7 +45,7 @@ module _ (x y w v lo hi : ℕ) (low : y ≤ x + v + hi) where
           high = h;
         }
 
-    above-not : (n : ℕ) → 0 < n → y + hi < x + n * v + w → Fits (x + n * v) y w lo hi → ⊥
+    above-not : (n : ℕ) → 0 < n → y + hi < x + n * v + w → Between (x + n * v) y w lo hi → ⊥
     above-not n p h (inl f) = omega (arith, f .high)
     above-not n p h (inr f) =
         ⊎-elim (λ (e : lo ≡ 0). omega (arith, f .off)) (λ (e : y + lo ≤ x + v). omega (arith, f .off, grows n v p)) off
@@ -54,7 +55,7 @@ module _ (x y w v lo hi : ℕ) (low : y ≤ x + v + hi) where
     below-at : (n : ℕ) → 0 < n → x + n * v + w + lo ≤ y → Below (x + n * v) y w lo hi
     below-at n p h = record { off = h; low = omega (arith, grows n v p) }
 
-    below-not : v < lo + lo → (n : ℕ) → x + n * v + w + lo ≤ y → y < x + suc n * v + w + lo → Fits (x + suc n * v) y w lo hi → ⊥
+    below-not : v < lo + lo → (n : ℕ) → x + n * v + w + lo ≤ y → y < x + suc n * v + w + lo → Between (x + suc n * v) y w lo hi → ⊥
     below-not slow n h l (inl f) =
         ⊎-elim (λ (e : lo ≡ 0). omega arith) (λ (e : y + lo ≤ x + suc n * v). omega (arith, suc-mul n v)) (f .off)
     below-not slow n h l (inr f) = omega (arith, f .off)
@@ -65,19 +66,19 @@ rests y n = omega (arith, mul-zero n)
 
 module _ (x y w v lo hi : ℕ) where
   abbrev at : ℕ → Type 0
-  at n = Fits (x + n * v) (y + n * 0) w lo hi
+  at n = Between (x + n * v) (y + n * 0) w lo hi
 
-  told : (n : ℕ) → Fits (x + n * v) y w lo hi → at n
+  told : (n : ℕ) → Between (x + n * v) y w lo hi → at n
   told n f = rw (rests y n) f
 
-  heard : (n : ℕ) → at n → Fits (x + n * v) y w lo hi
+  heard : (n : ℕ) → at n → Between (x + n * v) y w lo hi
   heard n f = rw (rests y n) at f
 
   once : x + 1 * v ≡ x + v
   once = omega (arith, suc-mul 0 v, zero-mul v)
 
   -- not even in the first tick
-  pub stays-none : (Fits (x + v) y w lo hi → ⊥) → Stays x y w v 0 lo hi 0
+  stays-none : (Between (x + v) y w lo hi → ⊥) → Stays x y w v 0 lo hi 0
   stays-none never =
       record {
         small = omega arith;
@@ -86,7 +87,7 @@ module _ (x y w v lo hi : ℕ) where
       }
 
   -- nothing moves
-  pub stays-ever : v ≡ 0 → Fits (x + v) y w lo hi → Stays x y w v 0 lo hi clockEnd
+  pub stays-ever : v ≡ 0 → Between (x + v) y w lo hi → Stays x y w v 0 lo hi clockEnd
   stays-ever e f =
       record {
         small = omega arith;
@@ -98,14 +99,14 @@ module _ (x y w v lo hi : ℕ) where
   pub stays-low : x + v + hi < y → Stays x y w v 0 lo hi 0
   stays-low h = stays-none (λ f. go f)
     where
-      go : Fits (x + v) y w lo hi → ⊥
+      go : Between (x + v) y w lo hi → ⊥
       go (inl f) = omega (arith, f .low)
       go (inr f) = omega (arith, f .low)
 
   pub stays-high : (lo ≡ 0) ⊎ (y + lo ≤ x + v) → y + hi < x + v + w → Stays x y w v 0 lo hi 0
   stays-high off h = stays-none (λ f. go f off)
     where
-      go : Fits (x + v) y w lo hi → (lo ≡ 0) ⊎ (y + lo ≤ x + v) → ⊥
+      go : Between (x + v) y w lo hi → (lo ≡ 0) ⊎ (y + lo ≤ x + v) → ⊥
       go (inl f) o = omega (arith, f .high)
       go (inr f) (inl e) = omega (arith, f .off)
       go (inr f) (inr e) = omega (arith, f .off)
@@ -113,7 +114,7 @@ module _ (x y w v lo hi : ℕ) where
   pub stays-mid : (lo ≡ 0 → ⊥) → x + v < y + lo → y < x + v + w + lo → Stays x y w v 0 lo hi 0
   stays-mid some a b = stays-none (λ f. go f)
     where
-      go : Fits (x + v) y w lo hi → ⊥
+      go : Between (x + v) y w lo hi → ⊥
       go (inl f) = ⊎-elim some (λ (e : y + lo ≤ x + v). omega arith) (f .off)
       go (inr f) = omega (arith, f .off)
 
@@ -143,25 +144,25 @@ module _ (x y w v lo hi : ℕ) where
 
 -- ---- the two change places
 
-turned : (x y w lo hi : ℕ) → Fits y (x + w) w lo hi → Fits x y w lo hi
+turned : (x y w lo hi : ℕ) → Between y (x + w) w lo hi → Between x y w lo hi
 turned x y w lo hi (inl f) =
     ⊎-elim (λ (e : lo ≡ 0). inl (record { off = inl e; low = omega (arith, f .high); high = f .low }))
     (λ (e : x + w + lo ≤ y). inr (record { off = e; low = omega (arith, f .high) })) (f .off)
 turned x y w lo hi (inr f) = inl (record { off = inr (omega (arith, f .off)); low = omega (arith, f .off); high = f .low })
 
-back : (x y w lo hi : ℕ) → Fits x y w lo hi → Fits y (x + w) w lo hi
+back : (x y w lo hi : ℕ) → Between x y w lo hi → Between y (x + w) w lo hi
 back x y w lo hi (inl f) =
     ⊎-elim (λ (e : lo ≡ 0). inl (record { off = inl e; low = f .high; high = omega (arith, f .low) }))
     (λ (e : y + lo ≤ x). inr (record { off = omega arith; low = f .high })) (f .off)
 back x y w lo hi (inr f) = inl (record { off = inr (f .off); low = omega (arith, f .off); high = omega (arith, f .low) })
 
 -- both moved on by k
-on : (x y w lo hi k : ℕ) → Fits x y w lo hi → Fits (x + k) (y + k) w lo hi
+on : (x y w lo hi k : ℕ) → Between x y w lo hi → Between (x + k) (y + k) w lo hi
 on x y w lo hi k (inl f) =
     inl (record { off = ⊎-elim inl (λ (e : y + lo ≤ x). inr (omega arith)) (f .off); low = omega (arith, f .low); high = omega (arith, f .high) })
 on x y w lo hi k (inr f) = inr (record { off = omega (arith, f .off); low = omega (arith, f .low) })
 
-off : (x y w lo hi k : ℕ) → Fits (x + k) (y + k) w lo hi → Fits x y w lo hi
+off : (x y w lo hi k : ℕ) → Between (x + k) (y + k) w lo hi → Between x y w lo hi
 off x y w lo hi k (inl f) =
     inl (record { off = ⊎-elim inl (λ (e : y + k + lo ≤ x + k). inr (omega arith)) (f .off); low = omega (arith, f .low); high = omega (arith, f .high) })
 off x y w lo hi k (inr f) = inr (record { off = omega (arith, f .off); low = omega (arith, f .low) })
@@ -178,10 +179,10 @@ module _ (x y w g h lo hi r : ℕ) where
       same : (n : ℕ) → x + n * (g - h) + n * h ≡ x + n * g
       same n = omega (arith, gap n h g l)
 
-      there : (n : ℕ) → Fits (x + n * (g - h)) (y + n * 0) w lo hi → Fits (x + n * g) (y + n * h) w lo hi
+      there : (n : ℕ) → Between (x + n * (g - h)) (y + n * 0) w lo hi → Between (x + n * g) (y + n * h) w lo hi
       there n f = rw (sym (same n)) (on (x + n * (g - h)) y w lo hi (n * h) (rw (rests y n) at f))
 
-      here : (n : ℕ) → Fits (x + n * g) (y + n * h) w lo hi → Fits (x + n * (g - h)) (y + n * 0) w lo hi
+      here : (n : ℕ) → Between (x + n * g) (y + n * h) w lo hi → Between (x + n * (g - h)) (y + n * 0) w lo hi
       here n f = rw (rests y n) (off (x + n * (g - h)) y w lo hi (n * h) (rw (sym (same n)) at f))
 
   -- the second is faster
@@ -191,8 +192,8 @@ module _ (x y w g h lo hi r : ℕ) where
       same : (n : ℕ) → y + n * (h - g) + n * g ≡ y + n * h
       same n = omega (arith, gap n g h (omega arith))
 
-      there : (n : ℕ) → Fits (y + n * (h - g)) (x + w + n * 0) w lo hi → Fits (x + n * g) (y + n * h) w lo hi
+      there : (n : ℕ) → Between (y + n * (h - g)) (x + w + n * 0) w lo hi → Between (x + n * g) (y + n * h) w lo hi
       there n f = rw (sym (same n)) (on x (y + n * (h - g)) w lo hi (n * g) (turned x (y + n * (h - g)) w lo hi (rw (rests (x + w) n) at f)))
 
-      here : (n : ℕ) → Fits (x + n * g) (y + n * h) w lo hi → Fits (y + n * (h - g)) (x + w + n * 0) w lo hi
+      here : (n : ℕ) → Between (x + n * g) (y + n * h) w lo hi → Between (y + n * (h - g)) (x + w + n * 0) w lo hi
       here n f = rw (rests (x + w) n) (back x (y + n * (h - g)) w lo hi (off x (y + n * (h - g)) w lo hi (n * g) (rw (sym (same n)) at f)))

@@ -26,7 +26,8 @@ bit-no bit t n = simp (ne-eqb _ _ n)
 pub bit-small : (bit : ℕ) (t : Track) → bit ≤ 1 → playBit bit t ≤ 1
 bit-small bit t h = cond-cases (λ (n : ℕ). n ≤ 1) (eqb (t .mode) PLAYING) (λ e. h) (λ e. omega arith)
 
-half : (w i : ℕ) → 0 < i → w / 2 ^ (i - 1) / 2 ≡ w / 2 ^ i
+-- a word's bits from i on, halved from those before
+pub half : (w i : ℕ) → 0 < i → w / 2 ^ (i - 1) / 2 ≡ w / 2 ^ i
 half w i p =
     let e : suc (i - 1) ≡ i = omega arith in
     div-div-eq-div-mul w (2 ^ (i - 1)) 2 ∙ ap (λ (m : ℕ). w / m) (sym (pow-suc 2 (i - 1))) ∙ ap (λ (n : ℕ). w / 2 ^ n) e

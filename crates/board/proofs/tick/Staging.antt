@@ -44,7 +44,7 @@ pub write-none : (xs : List ℕ) (at : ℕ) → writeAt xs at [] ≡ xs
 unfolding writeAt
 write-none xs at = ap (λ (n : ℕ). take at xs ++ drop n xs) (add-zero at) ∙ take-append-drop at xs
 
-write-byte : (xs : List ℕ) (at b : ℕ) → at < length xs → set xs at b ≡ writeAt xs at (b ∷ [])
+pub write-byte : (xs : List ℕ) (at b : ℕ) → at < length xs → set xs at b ≡ writeAt xs at (b ∷ [])
 unfolding writeAt
 write-byte xs at b h = set-split xs at b h ∙ rw add-one refl
 

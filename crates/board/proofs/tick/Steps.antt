@@ -6,25 +6,28 @@ use Prim.Native.Nat.{ℕ, zero, suc, _+_, _*_, _/_, _%_, _≤_, _<_}
 use native.Mathlib.Omega.{arith}
 use lib.Dec.{eqb, leb}
 use lib.ListN.{length, set, getD, length-append, length-set}
-use borrow.Author.Tests.{eqb-true, eqb-false, ne-eqb, le-leb, leb-true}
+use borrow.Author.Tests.{eqb-true, eqb-false, le-leb}
 use Rattle.track.specs.declared.Track.{Track}
 use Rattle.track.specs.declared.Ticks.{Ticks}
 use Rattle.track.specs.declared.Coordinate.{Coordinate}
-use Rattle.track.specs.Rule.{STOPPED, WAITING, clockEnd, Valid, Sound, entered}
+use Rattle.track.specs.Rule.{STOPPED, WAITING, clockEnd, Sound, entered}
+use Rattle.track.specs.Follow.{judged, banded}
 use Rattle.track.specs.Walk.{stops, visited, step}
 use Rattle.track.proofs.Tests.{cond-cases, both, both-is}
 use Rattle.track.proofs.Arrivals.{step-valid, step-passes, entered-valid, entered-passes}
+use Rattle.track.proofs.Follows.{SameFollower, same-follower, then-follower, step-follower, entered-follower, banded-sound, judged-most}
 use Rattle.board.specs.declared.Board.{Board}
 use Rattle.board.specs.declared.log.Record.{Record}
-use Rattle.board.specs.Points.{pointMost, ascendingFrom, keysOf, infosOf, infoAt, pointOf, waits, eventOf, waitOf, commandOf, targetOf, trackCount}
-use Rattle.board.specs.Board.{eventMost, trackAt, isPresent, placeTest, allowedTest, tracksTest, pointsTest, shapeTest, unbrokenParts, unbrokenTest}
-use Rattle.board.specs.Tick.{keep, membersFrom, members, tickMost}
+use Rattle.board.specs.Points.{pointMost, ascendingFrom, keysOf, infosOf, pointOf, waits, trackCount}
+use Rattle.board.specs.Board.{trackAt, isPresent, placeTest, allowedTest, tracksTest, pointsTest, shapeTest, unbrokenParts, unbrokenTest}
+use Rattle.board.specs.Replay.{Each}
+use Rattle.board.specs.Tick.{keep, membersFrom, members, followWord, bandCount, playFrom, tickMost}
 use Rattle.board.specs.Tick.{Stage, staged, foundBy, stepRecords, reachedBy, stepMember, stepAll, playingWord, tickFrom, tickOf, InfoRule, TracksRule}
-use Rattle.board.proofs.rules.Broken.{tracks-at, tracks-are, shape-same}
+use Rattle.board.proofs.rules.Broken.{Kept, kept-same, kept-banded, tracks-at, tracks-are, shape-same}
 use Rattle.board.proofs.points.Keys.{ascending-head, ascending-rest, ascending-cons}
-use Rattle.board.proofs.rules.Present.{target-below}
 use Rattle.board.proofs.tick.Staging.{step-most, reached-most}
 use Rattle.board.proofs.tick.Commands.{at-set, run-adds, run-long, run-at}
+use Rattle.board.proofs.follow.Following.{Still, followedFrom, follow-apart, follow-adds, follow-long, follow-keeps, following-same, bands-same, follow-word, follower-set, follow-bands, follow-fewer}
 
 -- ---- the members of a word
 
@@ -196,38 +199,121 @@ module _ (keys infos : List ℕ) (clock present : ℕ) (ts : List Track) where
   abbrev stepped : Stage
   stepped = stepAll keys infos clock playing (staged ts [] [])
 
+  abbrev played : Stage
+  played = playFrom keys infos clock present ts
+
+  -- the steps and the commands write at most three records for each track
+  pub play-few : length (played .records) ≤ 3 * trackCount
+  unfolding playFrom
+  play-few = omega (arith, steps-few keys infos clock (playingWord present ts) ts, run-adds clock (stepped .reached) stepped)
+
+  -- and leave as many tracks
+  pub play-long : length (played .tracks) ≡ length ts
+  unfolding playFrom
+  play-long = run-long clock (stepped .reached) stepped ∙ steps-long keys infos clock playing (staged ts [] [])
+
+  -- what holds of a track before, of it stepped, and of that in every other mode, holds of it after them
+  pub play-at : (P Q : Track → Type 0) → ((t : Track) → P t → Q t) → ((t : Track) → P t → (w : Bool) → Q (step t w))
+      → ((t : Track) → Q t → (m : ℕ) → m ≤ WAITING → Q (entered t m)) → (i : ℕ) → P (trackAt ts i) → Q (trackAt (played .tracks) i)
+  unfolding playFrom
+  play-at P Q f g h i p =
+      run-at clock Q h i (stepped .reached) stepped
+      (steps-at keys infos clock P Q f g i 0 playing (staged ts [] []) (members-ascend trackCount 0 (playingWord present ts)) p)
+
+  -- no step and no command changes a master, thresholds, events or a band
+  pub play-follower : (i : ℕ) → SameFollower (trackAt ts i) (trackAt (played .tracks) i)
+  play-follower i =
+      let t = trackAt ts i in
+      play-at (SameFollower t) (SameFollower t) (λ u e. e) (λ u e w. then-follower e (step-follower u w))
+      (λ u e m _. then-follower e (entered-follower u m)) i (same-follower t)
+
+  -- a track that kept the rules of a board with those present keeps them
+  pub play-kept : (before : Ticks) (i j : ℕ) → Kept present j (trackAt ts i) before
+      → Kept present j (trackAt (played .tracks) i) (record { 0 = before .0 + 1 })
+  play-kept before i j =
+      let after : Ticks = record { 0 = before .0 + 1 } in
+      play-at (λ t. Kept present j t before) (λ t. Kept present j t after)
+      (λ t k. kept-same k (omega arith) (same-follower t) (later-sound t before (k .sound)))
+      (λ t k w. kept-same k (omega arith) (step-follower t w) (step-sound t before (k .sound) w))
+      (λ t k m l. kept-same k (omega arith) (entered-follower t m) (entered-sound t after (k .sound) m l)) i
+
+  -- the same tracks follow then
+  pub play-follow-word : followWord present (played .tracks) ≡ followWord present ts
+  play-follow-word = following-same present ts (played .tracks) play-long (λ i. play-follower i .thresholds)
+
+  -- and the same bands are held
+  pub play-bands : bandCount present (played .tracks) ≡ bandCount present ts
+  play-bands = bands-same present ts (played .tracks) play-long (λ i. play-follower i .band)
+
+  abbrev led : List ℕ
+  led = members (followWord present ts)
+
+  -- a tick: what the steps and the commands leave, with the bands judged then, and what they write, the bands' records behind it
+  pub tick-apart : tickFrom keys infos clock present ts
+      ≡ staged (followedFrom clock led (played .tracks) .tracks) (played .records ++ followedFrom clock led (played .tracks) .records) (played .reached)
+  unfolding tickFrom
+  tick-apart = follow-apart clock led (played .tracks) (played .records) (played .reached)
+
   -- a tick writes at most so many records
   pub tick-few : length (tickFrom keys infos clock present ts .records) ≤ tickMost
   unfolding tickFrom
-  tick-few =
-      omega (arith, steps-few keys infos clock (playingWord present ts) ts, run-adds clock (stepped .reached) stepped)
+  tick-few = omega (arith, play-few, follow-adds clock led played, members-most trackCount 0 (followWord present ts))
 
   -- and leaves as many tracks
   pub tick-long : length (tickFrom keys infos clock present ts .tracks) ≡ length ts
   unfolding tickFrom
-  tick-long = run-long clock (stepped .reached) stepped ∙ steps-long keys infos clock playing (staged ts [] [])
+  tick-long = follow-long clock led played ∙ play-long
 
-  -- what holds of a track before, of it stepped, and of that in every other mode, holds of it after the tick
+  -- what holds of a track before, of it stepped, of that in every other mode and of that in any band that it is judged to be in, holds of
+  -- it after the tick
   pub tick-at : (P Q : Track → Type 0) → ((t : Track) → P t → Q t) → ((t : Track) → P t → (w : Bool) → Q (step t w))
-      → ((t : Track) → Q t → (m : ℕ) → m ≤ WAITING → Q (entered t m)) → (i : ℕ) → P (trackAt ts i) → Q (trackAt (tickFrom keys infos clock present ts .tracks) i)
+      → ((t : Track) → Q t → (m : ℕ) → m ≤ WAITING → Q (entered t m)) → ((t m : Track) → Q t → Q (banded t (judged t m)))
+      → (i : ℕ) → P (trackAt ts i) → Q (trackAt (tickFrom keys infos clock present ts .tracks) i)
   unfolding tickFrom
-  tick-at P Q f g h i p =
-      run-at clock Q h i (stepped .reached) stepped
-      (steps-at keys infos clock P Q f g i 0 playing (staged ts [] []) (members-ascend trackCount 0 (playingWord present ts)) p)
+  tick-at P Q f g h k i p = follow-keeps clock Q k i led played (play-at P Q f g h i p)
+
+  -- the same tracks follow after it
+  pub tick-follow-word : followWord present (tickFrom keys infos clock present ts .tracks) ≡ followWord present ts
+  unfolding tickFrom
+  tick-follow-word = follow-word clock present led played ∙ play-follow-word
+
+  -- no more bands are entered than records written
+  pub tick-bands : bandCount present (tickFrom keys infos clock present ts .tracks) ≤ bandCount present ts + length (tickFrom keys infos clock present ts .records)
+  tick-bands =
+      let e = ap (λ (s : Stage). bandCount present (s .tracks)) tick-apart in
+      let r = ap (λ (s : Stage). length (s .records)) tick-apart ∙ length-append (played .records) (followedFrom clock led (played .tracks) .records) in
+      omega (arith, play-bands, follow-bands clock present led (played .tracks))
+
+  -- where no record is written and a band changes, fewer are held
+  pub tick-bands-fewer : length (tickFrom keys infos clock present ts .records) ≤ 0 → (Each (Still (played .tracks)) led → ⊥)
+      → bandCount present (tickFrom keys infos clock present ts .tracks) < bandCount present ts
+  tick-bands-fewer h n =
+      let e = ap (λ (s : Stage). bandCount present (s .tracks)) tick-apart in
+      let r = ap (λ (s : Stage). length (s .records)) tick-apart ∙ length-append (played .records) (followedFrom clock led (played .tracks) .records) in
+      omega (arith, play-bands, follow-fewer clock present led (played .tracks) (follower-set present ts) (omega arith) n)
 
   -- a track that was sound is sound one tick later
   pub tick-sound : (before : Ticks) (i : ℕ) → Sound (trackAt ts i) before → Sound (trackAt (tickFrom keys infos clock present ts .tracks) i) (record { 0 = before .0 + 1 })
   tick-sound before =
       let after : Ticks = record { 0 = before .0 + 1 } in
       tick-at (λ t. Sound t before) (λ t. Sound t after) (λ t s. later-sound t before s) (λ t s w. step-sound t before s w)
-      (λ t s m l. entered-sound t after s m l)
+      (λ t s m l. entered-sound t after s m l) (λ t m s. banded-sound (judged t m) s)
+
+  -- and one that kept the rules of a board with those present keeps them
+  pub tick-kept : (before : Ticks) (i j : ℕ) → Kept present j (trackAt ts i) before
+      → Kept present j (trackAt (tickFrom keys infos clock present ts .tracks) i) (record { 0 = before .0 + 1 })
+  unfolding tickFrom
+  tick-kept before i j k =
+      let after : Ticks = record { 0 = before .0 + 1 } in
+      follow-keeps clock (λ t. Kept present j t after) (λ t m h. kept-banded (judged t m) (omega arith) (judged-most t m) h) i led played
+      (play-kept before i j k)
 
   -- and has the bounds that it had
   pub tick-bounds : (i : ℕ) → Bounded (trackAt ts i .min) (trackAt ts i .max) (trackAt (tickFrom keys infos clock present ts .tracks) i)
   tick-bounds i =
       let low = trackAt ts i .min in
       let high = trackAt ts i .max in
-      tick-at (Bounded low high) (Bounded low high) (λ t b. b) (step-bounded low high) (λ t b m l. entered-bounded low high t b m) i (refl, refl)
+      tick-at (Bounded low high) (Bounded low high) (λ t b. b) (step-bounded low high) (λ t b m l. entered-bounded low high t b m) (λ t m b. b) i (refl, refl)
 
 -- ---- the rules of a board
 
@@ -245,13 +331,13 @@ points-same present ts us h lo (k ∷ ks) (d ∷ ds) =
     && (allowedTest present p && points-same present ts us h (suc k) ks ds i))
 
 module _ (keys infos : List ℕ) (clock present : ℕ) (ts : List Track) where
-  -- a tick keeps the present tracks sound
-  pub tick-tracks : (before : Ticks) → tracksTest present ts before ≡ true
-      → tracksTest present (tickFrom keys infos clock present ts .tracks) (record { 0 = before .0 + 1 }) ≡ true
+  -- a tick keeps the rules of the present tracks
+  pub tick-tracks : (before : Ticks) → tracksTest present present 0 ts before ≡ true
+      → tracksTest present present 0 (tickFrom keys infos clock present ts .tracks) (record { 0 = before .0 + 1 }) ≡ true
   tick-tracks before h =
       let long = tick-long keys infos clock present ts in
-      tracks-are (tickFrom keys infos clock present ts .tracks) present (record { 0 = before .0 + 1 })
-      (λ i l e. tick-sound keys infos clock present ts before i (tracks-at ts present before h i (omega arith) e))
+      tracks-are (tickFrom keys infos clock present ts .tracks) present present 0 (record { 0 = before .0 + 1 })
+      (λ i j q l e. tick-kept keys infos clock present ts before i j (tracks-at ts present present 0 before h i j q (omega arith) e))
 
   -- and the points on their tracks
   pub tick-points : (lo : ℕ) (ks ds : List ℕ) → pointsTest present (tickFrom keys infos clock present ts .tracks) lo ks ds ≡ pointsTest present ts lo ks ds
@@ -267,7 +353,7 @@ tick-keeps b held h l =
     let present = b .present in
     let ts = b .tracks in
     let tests = pointsTest present ts 0 keys infos in
-    let whole = tracksTest present ts (b .clock) in
+    let whole = tracksTest present present 0 ts (b .clock) in
     let shape = shapeTest present ts (b .points .keys) (b .points .infos) in
     let p = both (leb (b .clock .0) clockEnd) (leb (b .points .count) pointMost && (whole && (tests && shape))) h in
     let q = both (leb (b .points .count) pointMost) (whole && (tests && shape)) (p .1) in
@@ -279,77 +365,3 @@ tick-keeps b held h l =
     (both-is (tick-tracks keys infos after present ts (b .clock) (r .0))
     (both-is (tick-points keys infos after present ts 0 keys infos ∙ t .0)
     (shape-same present ts (tickOf b .tracks) (b .points .keys) (b .points .infos) (tick-long keys infos after present ts) ∙ t .1))))
-
--- ---- the infos that are found
-
-module _ (present : ℕ) where
-  -- an info that keeps its rule, and whose target is present, if it has a command
-  abbrev pub Allowed : ℕ → Type 0
-  Allowed d = InfoRule d × ((commandOf d ≡ 0 → ⊥) → isPresent present (targetOf d) ≡ true)
-
-  info-allowed : (k d : ℕ) → allowedTest present (pointOf k d) ≡ true → Allowed d
-  unfolding allowedTest pointOf
-  info-allowed k d e =
-      let target = cond (eqb (commandOf d) 0) (eqb (targetOf d) 0) (isPresent present (targetOf d)) in
-      let a = both (leb 1 (eventOf d)) (leb (eventOf d) eventMost && (leb (waitOf d) 1 && (leb (commandOf d) 4 && target))) e in
-      let b = both (leb (eventOf d) eventMost) (leb (waitOf d) 1 && (leb (commandOf d) 4 && target)) (a .1) in
-      let w = both (leb (waitOf d) 1) (leb (commandOf d) 4 && target) (b .1) in
-      let c = both (leb (commandOf d) 4) target (w .1) in (
-        record { event = leb-true _ _ (b .0); command = leb-true _ _ (c .0); target = target-below present (commandOf d) (targetOf d) (c .1) },
-        λ n. rw (ne-eqb (commandOf d) 0 n) at (c .1),
-      )
-
-  none-allowed : Allowed 0
-  none-allowed = (record { event = omega arith; command = omega arith; target = omega arith }, λ n. absurd (n refl))
-
-  -- an info that is found, or 0, is one
-  pub found-allowed : (ts : List Track) (k lo : ℕ) (ks ds : List ℕ) → pointsTest present ts lo ks ds ≡ true → Allowed (infoAt k ks ds)
-  unfolding pointsTest infoAt
-  found-allowed ts k lo [] ds h = none-allowed
-  found-allowed ts k lo (x ∷ ks) [] h = none-allowed
-  found-allowed ts k lo (x ∷ ks) (d ∷ ds) h =
-      let p = pointOf x d in
-      let place = placeTest present (trackAt ts (p .track)) p in
-      let rest = pointsTest present ts (suc x) ks ds in
-      let a = both (leb lo x) (place && (allowedTest present p && rest)) h in
-      let b = both place (allowedTest present p && rest) (a .1) in
-      let c = both (allowedTest present p) rest (b .1) in
-      cond-cases Allowed (eqb x k) (λ e. info-allowed x d (c .0)) (λ e. found-allowed ts k (suc x) ks ds (c .1))
-
-  module _ (ts : List Track) (ks ds : List ℕ) (h : pointsTest present ts 0 ks ds ≡ true) (k : ℕ) where
-    -- an info that is found, or 0, keeps its rule
-    pub found-rule : InfoRule (infoAt k ks ds)
-    found-rule = found-allowed ts k 0 ks ds h .0
-
-    -- and its target is present, if it has a command
-    pub found-target : (commandOf (infoAt k ks ds) ≡ 0 → ⊥) → isPresent present (targetOf (infoAt k ks ds)) ≡ true
-    found-target = found-allowed ts k 0 ks ds h .1
-
--- ---- the rules that the commands rely on
-
-module _ (P : ℕ → Type 0) where
-  each-append : (xs ys : List ℕ) → ((j : ℕ) → j < length xs → P (getD xs j 0)) → ((j : ℕ) → j < length ys → P (getD ys j 0))
-      → (j : ℕ) → j < length (xs ++ ys) → P (getD (xs ++ ys) j 0)
-  each-append [] ys f g j l = g j l
-  each-append (x ∷ xs) ys f g zero l = f zero (omega arith)
-  each-append (x ∷ xs) ys f g (suc j) l = each-append xs ys (λ j l. f (suc j) (omega arith)) g j (omega arith)
-
-  each-reached : (d : ℕ) → P d → (j : ℕ) → j < length (reachedBy d) → P (getD (reachedBy d) j 0)
-  each-reached d p j = cond-cases (λ (l : List ℕ). j < length l → P (getD l j 0)) (eqb d 0) (λ e h. absurd (omega arith)) (λ e. one j)
-    where
-      one : (j : ℕ) → j < length (d ∷ []) → P (getD (d ∷ []) j 0)
-      one zero h = p
-      one (suc j) h = absurd (omega arith)
-
--- a step keeps them, where the info that it finds keeps its rule and has a present target, if any
-pub step-rule : (present : ℕ) (ts : List Track) (ds : List ℕ) (i : ℕ) (w : Bool) (d : ℕ) → TracksRule present ts ds → InfoRule d
-    → ((commandOf d ≡ 0 → ⊥) → isPresent present (targetOf d) ≡ true) → TracksRule present (set ts i (step (trackAt ts i) w)) (ds ++ reachedBy d)
-step-rule present ts ds i w d r k g =
-    record {
-      tracks = λ j h. at-set Valid ts i j (step (trackAt ts i) w) (r .tracks j h)
-          (λ e. step-valid (trackAt ts i) (subst (λ (n : ℕ). Valid (trackAt ts n)) e (r .tracks j h)) w);
-      infos = each-append InfoRule ds (reachedBy d) (r .infos) (each-reached InfoRule d k);
-      targets =
-          each-append (λ (n : ℕ). (commandOf n ≡ 0 → ⊥) → isPresent present (targetOf n) ≡ true) ds (reachedBy d) (r .targets)
-          (each-reached (λ (n : ℕ). (commandOf n ≡ 0 → ⊥) → isPresent present (targetOf n) ≡ true) d g);
-    }

@@ -99,6 +99,7 @@ isOn i call.Clock = false
 isOn i (call.Track track) = isNumber i track
 isOn i (call.Point track p) = isNumber i track
 isOn i (call.PointCount track from to) = isNumber i track
+isOn i (call.Master track master ps) = isNumber i track
 
 abbrev pub changeActs : Change → List Act
 changeActs (change.Start p) = []
@@ -125,6 +126,7 @@ deedOf call.Clock = []
 deedOf (call.Track track) = []
 deedOf (call.Point track p) = []
 deedOf (call.PointCount track from to) = []
+deedOf (call.Master track master ps) = []
 
 abbrev pub isRefusal : Reply → Bool
 isRefusal accepted = false

@@ -19,7 +19,7 @@ use Rattle.script.specs.declared.grammar.Row.{Row}
 use Rattle.script.specs.declared.number.Number.{Number}
 use Rattle.script.specs.declared.number.Number.the-variants.{Value, NoNumber}
 use Rattle.board.specs.declared.call.Call.{Call}
-use Rattle.board.specs.Row.{callOf, callAt}
+use Rattle.board.specs.Row.{callOf, plainAt}
 use Rattle.script.specs.Number.{numberOf}
 use Rattle.script.specs.Grammar.{aheadOf, numbersOf, fieldsOf, rowCall, fieldsCall, lineCall, upTo, behind, padded, paddedIn, rowOf}
 use Rattle.script.specs.Word.{codeOf, numbersAfter}
@@ -142,14 +142,14 @@ pub call-none : (c : ℕ) (r : Row) → r .whole ≡ false → none ≡ rowCall 
 call-none c r e = sym (ap (λ (t : Bool). rowCall c (cond t (some (r .numbers)) none)) e)
 
 -- and the call of one that is
-pub call-some : (c : ℕ) (r : Row) {o : Option Call} → r .whole ≡ true → o ≡ callAt (pos c ∷ r .numbers) → o ≡ rowCall c (rowOf r)
+pub call-some : (c : ℕ) (r : Row) {o : Option Call} → r .whole ≡ true → o ≡ plainAt (pos c ∷ r .numbers) → o ≡ rowCall c (rowOf r)
 call-some c r e p = p ∙ sym (ap (λ (t : Bool). rowCall c (cond t (some (r .numbers)) none)) e)
 
 -- a code and six numbers, each read back from its bits, are a row
 pub call-read : (c : ℕ) (ns : List ℤ) → c ≤ 16 → Kept ns 0 → Kept ns 1 → Kept ns 2 → Kept ns 3 → Kept ns 4 → Kept ns 5 →
     callOf (toZ w64 c) (back (getD ns 0 (pos 0))) (back (getD ns 1 (pos 0))) (back (getD ns 2 (pos 0))) (back (getD ns 3 (pos 0)))
     (back (getD ns 4 (pos 0))) (back (getD ns 5 (pos 0)))
-    ≡ callAt (pos c ∷ ns)
+    ≡ plainAt (pos c ∷ ns)
 call-read c ns h p0 p1 p2 p3 p4 p5 =
     let at : (n : ℕ) → Kept ns n → back (getD ns n (pos 0)) ≡ getD ns n (pos 0) = λ n k. toZ-ofZ {w = w64} (record { sfits = k }) in
     λ i. callOf (toZ-pos w64 {n = c} (omega arith) i) (at 0 p0 i) (at 1 p1 i) (at 2 p2 i) (at 3 p3 i) (at 4 p4 i) (at 5 p5 i)

@@ -2,6 +2,7 @@ use mathlib.Core.Path.{_≡_}
 use lib.ListN.{length}
 use Prim.Native.Nat.{_≤_, _-_}
 use borrow.Author.Needs.{needs}
+use Rattle.board.specs.Row.{callWidth}
 use Rattle.bench.proofs.read.read_row.Statement.{statement}
 use Rattle.bench.proofs.read.read_row.Tie as tie
 use Rattle.bench.proofs.read.after.Reads as after-reads
@@ -9,10 +10,10 @@ use Rattle.bench.proofs.read.find.Reads as find-reads
 use Rattle.bench.proofs.read.number.Reads as number-reads
 
 abbrev Inv-loop : tie.InvT-loop
-Inv-loop line calls₀ row at₀ k₀ calls at k = (k ≤ 7) × (at ≤ length line) × (length calls ≡ length calls₀)
+Inv-loop line calls₀ row at₀ k₀ calls at k = (k ≤ callWidth) × (at ≤ length line) × (length calls ≡ length calls₀)
 
 abbrev μ-loop : tie.MeasureT-loop
-μ-loop line calls₀ row at₀ k₀ calls at k = 7 - k
+μ-loop line calls₀ row at₀ k₀ calls at k = callWidth - k
 
 returns : tie.Need-returns Inv-loop μ-loop
 returns c = search needs

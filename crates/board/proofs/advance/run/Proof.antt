@@ -1,14 +1,19 @@
 use Prim.Native.Nat.{ℕ, _+_}
-use Rattle.board.proofs.advance.run.Proof.Standing.{Inv-loop, μ-loop, Inv-ticks, μ-ticks, leapt-all, board, bits, shape, start, whole, leapable, turn, fewer, leapt, ahead, whole′, short, longest, walked, leap-at, entry, member, stepping, done, few, full}
+use Rattle.board.proofs.advance.run.Proof.Standing.{Inv-loop, μ-loop, Inv-ticks, μ-ticks, board, bits, shape, start, whole, leapable, mastered, pairs, turn, quiets, calm, fewer, leapt, ahead, whole′}
+use Rattle.board.proofs.advance.run.Proof.Standing.{all-leapt, leapt-all, short, longest, leap-at, entry, member, stepping, played, leads, done, few, logged, walked, full}
 use Rattle.board.proofs.advance.Cost.{leap-less, walk-less}
 use Rattle.board.proofs.advance.Advancing.{going-start, going-ends, going-done, boardAt, whole-points}
 use Rattle.board.proofs.quiet.Leaps.{unbroken-leapable, unbroken-infos}
 use Rattle.board.proofs.advance.Turning.{turning-start, turning-leapable, turning-store, turning-over, turning-rule}
-use Rattle.board.proofs.tick.Steps.{found-rule}
+use Rattle.board.proofs.advance.Judged.{played-rules, played-room}
+use Rattle.board.proofs.quiet.Bands.{leap-bands}
+use Rattle.board.proofs.follow.Rules.{unbroken-rules}
+use Rattle.board.proofs.tick.Steps.{tick-follow-word}
+use Rattle.board.proofs.tick.Found.{found-rule}
 use Rattle.board.proofs.advance.run.Statement.{statement}
 use Rattle.board.proofs.advance.run.Tie as tie
 use Rattle.board.specs.Points.{key, keysOf, infosOf, infoAt}
-use Rattle.board.specs.Tick.{InfoRule}
+use Rattle.board.specs.Tick.{followWord, bandCount, InfoRule}
 use Rattle.track.proofs.Arrivals.{arrival-inside}
 use borrow.Author.Needs.{needs}
 use lib.Count.{trailingZeros}
@@ -19,10 +24,13 @@ mod Standing
 playing-requires : tie.Need-playing-requires Inv-loop μ-loop Inv-ticks μ-ticks
 playing-requires c κs = search needs
 
+followers-requires : tie.Need-followers-requires Inv-loop μ-loop Inv-ticks μ-ticks
+followers-requires c κs = search needs
+
 ticks-holds : tie.Need-ticks-holds Inv-loop μ-loop Inv-ticks μ-ticks
 ticks-holds c =
-    let s = c .before .before .before .before in
-    (going-start (board s) (s .args .count .0) (s .args .log .now) (s .pre .0) (s .pre .1) (shape s .tracks), c .playing .ensures, refl, refl)
+    let s = c .before .before .before .before .before in
+    (going-start (board s) (s .args .count .0) (s .args .log .now) (s .pre .0) (s .pre .1) (shape s .tracks), c .before .playing .ensures, refl, refl, c .followers .ensures)
 
 sub-smaller : tie.Need-sub-smaller Inv-loop μ-loop Inv-ticks μ-ticks
 sub-smaller c = search needs
@@ -39,7 +47,7 @@ quiet-requires c κs =
     let u = whole t in
     let s = u .shape in (
       leapable t,
-      ((omega (arith, u .count, s .keys), omega (arith, u .count, s .infos)), (u .order, unbroken-infos _ u)),
+      (pairs t, ((omega (arith, u .count, s .keys), omega (arith, u .count, s .infos)), (u .order, unbroken-infos _ u))),
     )
 
 smaller-requires-2 : tie.Need-smaller-requires-2 Inv-loop μ-loop Inv-ticks μ-ticks
@@ -62,13 +70,14 @@ ticks-less c =
     let k = turn j .before .ticks in
     let l = leapt-all c in
     let e = j .before .smaller .ensures in
-    leap-less _ _ _ (k .inv .0) (l .0) (turn j .ticks-test .taken) (omega (arith, j .before .before .if1 .left, whole (turn j) .clock)) (k .look) refl (sym (l .1) ∙ k .inv .1) (omega arith)
+    leap-less _ _ _ (k .inv .0) (l .0) (turn j .ticks-test .taken) (omega (arith, j .before .before .if1 .left, whole (turn j) .clock)) (k .look) refl (sym (l .1) ∙ k .inv .1)
+    (ap (bandCount _) (all-leapt c) ∙ leap-bands (j .before .smaller .result) _ (k .tracks)) (omega arith)
 
 ticks-again : tie.Need-ticks-again Inv-loop μ-loop Inv-ticks μ-ticks
 ticks-again c =
     let l = leapt-all c in
     let k = turn (c .before .before) .before .ticks in
-    (l .0, l .1, k .inv .2, k .inv .3)
+    (l .0, l .1, k .inv .2, k .inv .3, l .2)
 
 sub-room : tie.Need-sub-room Inv-loop μ-loop Inv-ticks μ-ticks
 sub-room c = omega (arith, c .before .before .before .before .before .ticks .inv .0 .fits)
@@ -140,8 +149,8 @@ info-at-requires c κs =
 cast-step-member : tie.Need-cast-step-member Inv-loop μ-loop Inv-ticks μ-ticks
 cast-step-member c = record { fits = (let l = member (c .before .before .before .before .before) .inside in omega arith) }
 
-add-t55 : tie.Need-add-t55 Inv-loop μ-loop Inv-ticks μ-ticks
-add-t55 c =
+add-t58 : tie.Need-add-t58 Inv-loop μ-loop Inv-ticks μ-ticks
+add-t58 c =
     let e = c .before .before .before .before .before .before .before .before .before in
     let n = short e in
     omega (arith, c .before .before .before .before .before .before .before .before .before .before .before .smaller .ensures, whole (c .before .before .before .before .before .before .before .before .before .before .before .before .before) .clock)
@@ -222,8 +231,8 @@ loop-again c =
     (c .before .before .before .before .before .before .before .before .before .before .step-member .ensures .0) (c .before .before .before .before .before .before .before .before .before .before .step-member .ensures .1)
     (c .before .before .before .note .ensures .0) (c .before .before .before .note .ensures .1 .0) (c .before .before .before .note .ensures .1 .1) (c .before .needs-more .ensures)
 
-add-t79 : tie.Need-add-t79 Inv-loop μ-loop Inv-ticks μ-ticks
-add-t79 c =
+add-t82 : tie.Need-add-t82 Inv-loop μ-loop Inv-ticks μ-ticks
+add-t82 c =
     let n = short (c .before .before .before .before .before) in
     omega (arith, c .before .before .before .before .before .before .before .smaller .ensures, whole (c .before .before .before .before .before .before .before .before .before) .clock)
 
@@ -241,8 +250,23 @@ run-commands-requires c κs =
       (turning-rule _ _ _ _ _ (c .before .before .before .before .before .before .before .before .before .before .before .before .ticks .inv .1) _ _ _ _ _ _ _ _ (k .inv) (c .before .before .before .loop-test .left), omega (arith, v .few-reached, v .few-records, v .stage-long)),
     )
 
+add-t89 : tie.Need-add-t89 Inv-loop μ-loop Inv-ticks μ-ticks
+add-t89 c =
+    let j = leap-at (c .before .before .before .before .before) in
+    let n = short (c .before .before .before .before .before .before) in
+    omega (arith, j .before .smaller .ensures, whole (turn j) .clock)
+
+slice-aggregate-judge-bands : tie.Need-slice-aggregate-judge-bands Inv-loop μ-loop Inv-ticks μ-ticks
+slice-aggregate-judge-bands c = sym (played (c .before .before) .stage-long)
+
+judge-bands-requires : tie.Need-judge-bands-requires Inv-loop μ-loop Inv-ticks μ-ticks
+judge-bands-requires c κs =
+    let p = played (c .before .before) in
+    let j = leap-at (c .before .before .before .before .before .before) in
+    (played-rules _ _ _ _ _ _ _ p _ (leads j) (unbroken-rules _ _ (whole′ j)), played-room _ _ _ _ _ _ _ p)
+
 mul-commit : tie.Need-mul-commit Inv-loop μ-loop Inv-ticks μ-ticks
-mul-commit c = omega (arith, c .before .before .before .before .before .before .before .before .before .before .before .before .ticks .inv .0 .fits, c .before .before .before .before .before .before .before .before .before .before .before .before .before .before .before .before .before .good)
+mul-commit c = omega (arith, c .before .before .before .before .before .before .before .before .before .before .before .before .before .ticks .inv .0 .fits, c .before .before .before .before .before .before .before .before .before .before .before .before .before .before .before .before .before .before .before .good)
 
 slice-aggregate-commit : tie.Need-slice-aggregate-commit Inv-loop μ-loop Inv-ticks μ-ticks
 slice-aggregate-commit c = sym (done (c .before .before .before) .stage-long)
@@ -252,38 +276,46 @@ mul-commit-2 c = let f = few (c .before .before .before .before) in omega arith
 
 commit-requires : tie.Need-commit-requires Inv-loop μ-loop Inv-ticks μ-ticks
 commit-requires c κs =
-    let g = c .before .before .before .before .before .before .before .before .before .before .before .before .before .before .ticks .inv .0 in
+    let g = c .before .before .before .before .before .before .before .before .before .before .before .before .before .before .before .ticks .inv .0 in
     let d = done (c .before .before .before .before) in
-    (omega (arith, g .fits, g .long, c .before .before .before .if7 .left), omega (arith, d .stage-long, few (c .before .before .before .before)))
+    (omega (arith, g .fits, g .long, c .before .before .before .if8 .left), omega (arith, d .stage-long, few (c .before .before .before .before)))
 
 add-held : tie.Need-add-held Inv-loop μ-loop Inv-ticks μ-ticks
-add-held c = omega (arith, c .before .before .before .before .before .before .before .before .before .before .before .before .before .before .before .before .before .ticks .inv .0 .fits, c .before .before .before .before .before .before .if7 .left, c .before .before .before .before .before .before .before .before .before .before .before .before .before .before .before .before .before .before .before .before .before .before .good)
+add-held c = omega (arith, c .before .before .before .before .before .before .before .before .before .before .before .before .before .before .before .before .before .before .ticks .inv .0 .fits, c .before .before .before .before .before .before .if8 .left, c .before .before .before .before .before .before .before .before .before .before .before .before .before .before .before .before .before .before .before .before .before .before .before .before .good)
 
 add-clock-3 : tie.Need-add-clock-3 Inv-loop μ-loop Inv-ticks μ-ticks
 add-clock-3 c =
-    let n = short (c .before .before .before .before .before .before .before .before .before .before .before .before) in
-    omega (arith, c .before .before .before .before .before .before .before .before .before .before .before .before .before .before .smaller .ensures, whole (c .before .before .before .before .before .before .before .before .before .before .before .before .before .before .before .before) .clock)
+    let n = short (c .before .before .before .before .before .before .before .before .before .before .before .before .before) in
+    omega (arith, c .before .before .before .before .before .before .before .before .before .before .before .before .before .before .before .smaller .ensures, whole (c .before .before .before .before .before .before .before .before .before .before .before .before .before .before .before .before .before) .clock)
 
 add-taken-3 : tie.Need-add-taken-3 Inv-loop μ-loop Inv-ticks μ-ticks
 add-taken-3 c =
-    let n = short (c .before .before .before .before .before .before .before .before .before .before .before .before) in
-    omega (arith, c .before .before .before .before .before .before .before .before .before .before .before .before .before .before .smaller .ensures, c .before .before .before .before .before .before .before .before .before .before .before .before .before .before .before .before .ticks-test .taken, bits (c .before .before .before .before .before .before .before .before .before .before .before .before .before .before .before .before .before .before .before .before .before .before))
+    let n = short (c .before .before .before .before .before .before .before .before .before .before .before .before .before) in
+    omega (arith, c .before .before .before .before .before .before .before .before .before .before .before .before .before .before .before .smaller .ensures, c .before .before .before .before .before .before .before .before .before .before .before .before .before .before .before .before .before .ticks-test .taken, bits (c .before .before .before .before .before .before .before .before .before .before .before .before .before .before .before .before .before .before .before .before .before .before .before .before))
 
 ticks-less-2 : tie.Need-ticks-less-2 Inv-loop μ-loop Inv-ticks μ-ticks
 ticks-less-2 c =
-    let j = c .before .before .before .before .before .before .before .before .before .before .before .before .before in
+    let j = c .before .before .before .before .before .before .before .before .before .before .before .before .before .before in
     let k = turn j .before .ticks in
     let d = done (c .before .before .before .before .before .before .before) in
-    let n = short (c .before .before .before .before .before .before .before .before .before .before .before .before) in
+    let n = short (c .before .before .before .before .before .before .before .before .before .before .before .before .before) in
     let e = j .before .smaller .ensures in
+    let q = quiets j in
     walk-less _ _ _ (k .inv .0) (walked c) (turn j .ticks-test .taken) (omega (arith, j .before .before .if1 .left, whole (turn j) .clock)) (j .if2 .skipped)
-    (unbroken-leapable _ (whole (turn j))) (unbroken-infos _ (whole (turn j))) (k .look) refl (d .tracks) (d .count) (omega arith)
-    (longest (c .before .before .before .before .before .before .before .before .before .before .before .before))
+    (unbroken-leapable _ (whole (turn j))) (mastered (turn j)) (unbroken-infos _ (whole (turn j))) refl (d .tracks) (d .count) refl refl (logged c) (q .0) (q .1)
+    (calm j) (q .3) (k .look) (omega arith) (longest (c .before .before .before .before .before .before .before .before .before .before .before .before .before))
 
 ticks-again-2 : tie.Need-ticks-again-2 Inv-loop μ-loop Inv-ticks μ-ticks
 ticks-again-2 c =
-    let d = done (c .before .before .before .before .before .before .before) in
-    (walked c, d .word-is, d .stage-long, c .before .before .before .before .before .before .before .before .before .loop .inv .steps .reached-long)
+    let m = c .before .before .before .before .before .before .before in
+    let d = done m in
+    let j = leap-at (m .before .before .before .before .before) in (
+      walked c,
+      d .word-is,
+      d .stage-long,
+      m .before .before .before .loop .inv .steps .reached-long,
+      leads j ∙ sym (tick-follow-word _ _ _ _ _) ∙ ap (followWord _) (sym (d .tracks)),
+    )
 
 same-length : tie.Need-same-length Inv-loop μ-loop Inv-ticks μ-ticks
 same-length c = c .before .ticks .inv .0 .long
@@ -311,12 +343,12 @@ returns-3 c =
     full (c .before .before .before .before .before .before .before .before .before .before .before .before .before .before .before .before .before .before .before .before) (omega (arith, c .if5 .taken, v .steps .few-records)) (omega (arith, c .if5 .taken))
 
 same-length-4 : tie.Need-same-length-4 Inv-loop μ-loop Inv-ticks μ-ticks
-same-length-4 c = c .before .before .before .before .before .before .before .before .before .before .before .ticks .inv .0 .long
+same-length-4 c = c .before .before .before .before .before .before .before .before .before .before .before .before .ticks .inv .0 .long
 
 returns-4 : tie.Need-returns-4 Inv-loop μ-loop Inv-ticks μ-ticks
 returns-4 c =
     let d = done (c .before) in
-    full (c .before .before .before .before .before) (omega (arith, c .if7 .taken, few (c .before))) (omega (arith, c .if7 .taken, d .count))
+    full (c .before .before .before .before .before .before) (omega (arith, c .if8 .taken, few (c .before))) (omega (arith, c .if8 .taken, d .count))
 
 pub run-spec : {M : Type 1} → statement M
 run-spec =
@@ -327,6 +359,7 @@ run-spec =
     Inv-ticks
     μ-ticks
     playing-requires
+    followers-requires
     ticks-holds
     sub-smaller
     sub-smaller-2
@@ -353,7 +386,7 @@ run-spec =
     add-here
     info-at-requires
     cast-step-member
-    add-t55
+    add-t58
     slice-aggregate-step-member
     step-member-requires
     mul-tracks
@@ -373,10 +406,13 @@ run-spec =
     sub-left
     loop-less
     loop-again
-    add-t79
+    add-t82
     slice-aggregate-run-commands
     slice-aggregate-run-commands-2
     run-commands-requires
+    add-t89
+    slice-aggregate-judge-bands
+    judge-bands-requires
     mul-commit
     slice-aggregate-commit
     mul-commit-2

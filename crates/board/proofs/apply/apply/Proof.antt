@@ -2,6 +2,7 @@ use Rattle.board.proofs.apply.Applying.{applied, passed}
 use Rattle.board.specs.declared.call.Call.the-variants as call
 use mathlib.Core.Path.{_∙_}
 use borrow.Author.Needs.{needs}
+use Rattle.board.proofs.call.Leaving.{set-master-leaves}
 use Rattle.board.proofs.apply.apply.Statement.{statement}
 use Rattle.board.proofs.apply.apply.Tie as tie
 
@@ -131,6 +132,15 @@ point-count-requires c κs = search needs
 count-requires : tie.Need-count-requires
 count-requires c κs = search needs
 
+enum-known-c-13 : tie.Need-enum-known-c-13
+enum-known-c-13 c = search needs
+
+master-requires : tie.Need-master-requires
+master-requires c κs = search needs
+
+outcome-requires-10 : tie.Need-outcome-requires-10
+outcome-requires-10 c κs = search needs
+
 returns : tie.Need-returns
 returns c = let k = c .before .before .before .c .given in let g = c .before .before .known-told .given in applied _ (k .1 ∙ (λ j. call.AddTrack (passed (k .0 .0) (g .0 .1) j) (passed (k .0 .1 .0) (g .1 .0 .1) j) (passed (k .0 .1 .1 .0) (g .1 .1 .0 .1) j))) (c .before .add-track .ensures _) (c .outcome .ensures)
 
@@ -188,6 +198,13 @@ returns-13 c = let k = c .before .before .before .c11 .given in let g = c .befor
 returns-14 : tie.Need-returns-14
 returns-14 c = let k = c .before .before .before .c12 .given in let g = c .before .before .known-told12 .given in applied _ (k .1 ∙ (λ j. call.PointCount (passed (k .0 .0) (g .0 .1) j) (passed (k .0 .1 .0) (g .1 .0 .1) j) (passed (k .0 .1 .1 .0) (g .1 .1 .0 .1) j))) (c .before .point-count .ensures _) (c .count .ensures)
 
+returns-15 : tie.Need-returns-15
+returns-15 c =
+    let k = c .before .before .before .c13 .given in
+    let g = c .before .before .known-told13 .given in
+    applied _ (k .1 ∙ (λ j. call.Master (passed (k .0 .0) (g .0 .1) j) (passed (k .0 .1 .0) (g .1 .0 .1) j) (k .0 .1 .1 .0)))
+    (set-master-leaves _ _ _ _ (c .before .master .ensures) _) (c .outcome10 .ensures)
+
 pub apply-spec : {M : Type 1} → statement M
 apply-spec =
     tie.close
@@ -234,6 +251,9 @@ apply-spec =
     enum-known-c-12
     point-count-requires
     count-requires
+    enum-known-c-13
+    master-requires
+    outcome-requires-10
     returns
     returns-2
     returns-3
@@ -252,4 +272,5 @@ apply-spec =
     returns-11
     returns-12
     returns-13
-    returns-14)
+    returns-14
+    returns-15)

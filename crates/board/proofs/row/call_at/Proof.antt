@@ -1,114 +1,60 @@
 use Prim.Native.Nat.{_*_}
-use Rattle.board.proofs.row.Encoding.{row-read}
+use Rattle.board.proofs.row.Encoding.{row-master, row-plain}
 use Rattle.board.proofs.row.call_at.Statement.{statement}
 use Rattle.board.proofs.row.call_at.Tie as tie
 use Rattle.board.specs.Row.{callWidth}
 use borrow.Author.Needs.{needs}
-use mathlib.Core.Path.{_∙_}
+use mathlib.Core.Path.{_∙_, sym}
 
 mul-at : tie.Need-mul-at
 mul-at c = search needs
 
-mul-call-of : tie.Need-mul-call-of
-mul-call-of c = search needs
+mul-in-range : tie.Need-mul-in-range
+mul-in-range c = search needs
 
-shared-slice-copy-out-call-of : tie.Need-shared-slice-copy-out-call-of
-shared-slice-copy-out-call-of c = search needs
+shared-slice-copy-out-in-range : tie.Need-shared-slice-copy-out-in-range
+shared-slice-copy-out-in-range c = search needs
 
-add-call-of : tie.Need-add-call-of
-add-call-of c = search needs
+in-range-requires : tie.Need-in-range-requires
+in-range-requires c κs = search needs
 
-mul-call-of-2 : tie.Need-mul-call-of-2
-mul-call-of-2 c = search needs
+enum-told : tie.Need-enum-told
+enum-told c = search needs
 
-shared-slice-copy-out-call-of-2 : tie.Need-shared-slice-copy-out-call-of-2
-shared-slice-copy-out-call-of-2 c = search needs
+master-at-requires : tie.Need-master-at-requires
+master-at-requires c κs = search needs
 
-add-call-of-2 : tie.Need-add-call-of-2
-add-call-of-2 c = search needs
+enum-told-2 : tie.Need-enum-told-2
+enum-told-2 c = search needs
 
-mul-call-of-3 : tie.Need-mul-call-of-3
-mul-call-of-3 c = search needs
-
-shared-slice-copy-out-call-of-3 : tie.Need-shared-slice-copy-out-call-of-3
-shared-slice-copy-out-call-of-3 c = search needs
-
-add-call-of-3 : tie.Need-add-call-of-3
-add-call-of-3 c = search needs
-
-mul-call-of-4 : tie.Need-mul-call-of-4
-mul-call-of-4 c = search needs
-
-shared-slice-copy-out-call-of-4 : tie.Need-shared-slice-copy-out-call-of-4
-shared-slice-copy-out-call-of-4 c = search needs
-
-add-call-of-4 : tie.Need-add-call-of-4
-add-call-of-4 c = search needs
-
-mul-call-of-5 : tie.Need-mul-call-of-5
-mul-call-of-5 c = search needs
-
-shared-slice-copy-out-call-of-5 : tie.Need-shared-slice-copy-out-call-of-5
-shared-slice-copy-out-call-of-5 c = search needs
-
-add-call-of-5 : tie.Need-add-call-of-5
-add-call-of-5 c = search needs
-
-mul-call-of-6 : tie.Need-mul-call-of-6
-mul-call-of-6 c = search needs
-
-shared-slice-copy-out-call-of-6 : tie.Need-shared-slice-copy-out-call-of-6
-shared-slice-copy-out-call-of-6 c = search needs
-
-add-call-of-6 : tie.Need-add-call-of-6
-add-call-of-6 c = search needs
-
-mul-call-of-7 : tie.Need-mul-call-of-7
-mul-call-of-7 c = search needs
-
-shared-slice-copy-out-call-of-7 : tie.Need-shared-slice-copy-out-call-of-7
-shared-slice-copy-out-call-of-7 c = search needs
-
-call-of-requires : tie.Need-call-of-requires
-call-of-requires c κs = search needs
+plain-at-requires : tie.Need-plain-at-requires
+plain-at-requires c κs = search needs
 
 returns : tie.Need-returns
 returns c =
-    let a = c .before .before .before .before .before .before .before .before .args in
-    c .call-of .ensures
-    ∙ row-read (a .calls .now) (a .i * callWidth)
-    (c .before .before .before .before .before .before .before .call-of-arg .given)
-    (c .before .before .before .before .before .before .call-of-arg2 .given)
-    (c .before .before .before .before .before .call-of-arg3 .given)
-    (c .before .before .before .before .call-of-arg4 .given)
-    (c .before .before .before .call-of-arg5 .given)
-    (c .before .before .call-of-arg6 .given)
-    (c .before .call-of-arg7 .given)
+    let a = c .before .before .before .before .before .args in
+    c .master-at .ensures
+    ∙ row-master (a .calls .now) (a .i * callWidth) (c .before .before .before .before .in-range-arg .given)
+    (sym (c .before .before .before .in-range .ensures) ∙ c .before .enum-told .given .1)
+
+returns-2 : tie.Need-returns-2
+returns-2 c =
+    let a = c .before .before .before .before .before .args in
+    c .plain-at .ensures
+    ∙ row-plain (a .calls .now) (a .i * callWidth) (c .before .before .before .before .in-range-arg .given)
+    (sym (c .before .before .before .in-range .ensures) ∙ c .before .enum-told2 .given .1)
 
 pub call-at-spec : {M : Type 1} → statement M
 call-at-spec =
     tie.close
     (tie.spec
     mul-at
-    mul-call-of
-    shared-slice-copy-out-call-of
-    add-call-of
-    mul-call-of-2
-    shared-slice-copy-out-call-of-2
-    add-call-of-2
-    mul-call-of-3
-    shared-slice-copy-out-call-of-3
-    add-call-of-3
-    mul-call-of-4
-    shared-slice-copy-out-call-of-4
-    add-call-of-4
-    mul-call-of-5
-    shared-slice-copy-out-call-of-5
-    add-call-of-5
-    mul-call-of-6
-    shared-slice-copy-out-call-of-6
-    add-call-of-6
-    mul-call-of-7
-    shared-slice-copy-out-call-of-7
-    call-of-requires
-    returns)
+    mul-in-range
+    shared-slice-copy-out-in-range
+    in-range-requires
+    enum-told
+    master-at-requires
+    enum-told-2
+    plain-at-requires
+    returns
+    returns-2)

@@ -3,10 +3,22 @@ use Rattle.board.proofs.row.Encoding.{track-numbers}
 use Rattle.board.proofs.row.track_row.Statement.{statement}
 use Rattle.board.proofs.row.track_row.Tie as tie
 use Rattle.board.specs.Call.{trackValues}
+use Rattle.board.specs.Log.{writeAt}
+use Rattle.board.specs.Row.{cellsAt, masterAt, thresholdsAt, eventsAt}
+use Rattle.track.specs.Rule.{cellCount, thresholdCount}
 use borrow.Author.Needs.{needs}
-use lib.ListN.{take}
-use mathlib.Core.List.{List, _++_}
-use mathlib.Core.Path.{_∙_, ap}
+use lib.ListN.{length}
+use mathlib.Core.List.{List, [], _∷_}
+use mathlib.Core.Path.{_≡_, _∙_, ap}
+
+cells-long : (c : tie.After-cells) → length (c .before .args .t .actions) ≡ cellCount
+cells-long c = search needs
+
+thresholds-long : (c : tie.After-thresholds) → length (c .before .before .args .t .thresholds) ≡ thresholdCount
+thresholds-long c = search needs
+
+events-long : (c : tie.After-events) → length (c .before .before .before .args .t .events) ≡ thresholdCount
+events-long c = search needs
 
 track-head-requires : tie.Need-track-head-requires
 track-head-requires c κs = search needs
@@ -14,12 +26,37 @@ track-head-requires c κs = search needs
 with-cells-requires : tie.Need-with-cells-requires
 with-cells-requires c κs = search needs
 
+with-band-requires : tie.Need-with-band-requires
+with-band-requires c κs = search needs
+
+with-four-requires : tie.Need-with-four-requires
+with-four-requires c κs = search needs
+
+with-four-requires-2 : tie.Need-with-four-requires-2
+with-four-requires-2 c κs = search needs
+
 returns : tie.Need-returns
 returns c =
-    let t = c .before .before .before .args .t in
-    c .with-cells .ensures
-    ∙ ap (λ (h : List ℕ). take 12 h ++ t .actions) (c .before .track-head .ensures)
-    ∙ track-numbers (trackValues t) (search needs)
+    let t = c .before .before .before .before .before .before .before .before .args .t in
+    let cells : length (t .actions) ≡ cellCount = cells-long (c .before .before .before .before .before .before .before) in
+    let limits : length (t .thresholds) ≡ thresholdCount = thresholds-long (c .before .before .before .before .before .before) in
+    let events : length (t .events) ≡ thresholdCount = events-long (c .before .before .before .before .before) in
+    let named : List ℕ = t .master ∷ t .band ∷ [] in
+    c .with-four2 .ensures
+    ∙ ap (λ (r : List ℕ). writeAt r eventsAt (t .events)) (c .before .with-four .ensures)
+    ∙ ap (λ (r : List ℕ). writeAt (writeAt r thresholdsAt (t .thresholds)) eventsAt (t .events)) (c .before .before .with-band .ensures)
+    ∙ ap (λ (r : List ℕ). writeAt (writeAt (writeAt r masterAt named) thresholdsAt (t .thresholds)) eventsAt (t .events)) (c .before .before .before .with-cells .ensures)
+    ∙ ap (λ (r : List ℕ). writeAt (writeAt (writeAt (writeAt r cellsAt (t .actions)) masterAt named) thresholdsAt (t .thresholds)) eventsAt (t .events))
+    (c .before .before .before .before .track-head .ensures)
+    ∙ track-numbers (trackValues t) cells limits events
 
 pub track-row-spec : {M : Type 1} → statement M
-track-row-spec = tie.close (tie.spec track-head-requires with-cells-requires returns)
+track-row-spec =
+    tie.close
+    (tie.spec
+    track-head-requires
+    with-cells-requires
+    with-band-requires
+    with-four-requires
+    with-four-requires-2
+    returns)

@@ -10,7 +10,7 @@ use mathlib.Core.Path.{_≡_, refl, _∙_}
 use native.Mathlib.Omega.{arith}
 
 abbrev Inv-loop : tie.InvT-loop
-Inv-loop present clock tracks word₀ i₀ word i = (i ≤ 16) × (tracksTest word (drop i tracks) clock ≡ tracksTest present tracks clock)
+Inv-loop present clock tracks word₀ i₀ word i = (i ≤ 16) × (tracksTest present word i (drop i tracks) clock ≡ tracksTest present present 0 tracks clock)
 
 abbrev μ-loop : tie.MeasureT-loop
 μ-loop present clock tracks word₀ i₀ word i = 16 - i
@@ -27,11 +27,14 @@ mul-t c = search needs
 array-copy-out-t : tie.Need-array-copy-out-t Inv-loop μ-loop
 array-copy-out-t c = search needs
 
-sound-if-requires : tie.Need-sound-if-requires Inv-loop μ-loop
-sound-if-requires c κs = search needs
+cast-kept-if : tie.Need-cast-kept-if Inv-loop μ-loop
+cast-kept-if c = search needs
+
+kept-if-requires : tie.Need-kept-if-requires Inv-loop μ-loop
+kept-if-requires c κs = search needs
 
 returns : tie.Need-returns Inv-loop μ-loop
-returns c = tracks-bad (c .before .before .before .before .loop .word) (c .before .before .before .before .before .args .t1) (c .before .before .before .before .loop .i) (c .before .before .before .before .before .args .clock) (omega (arith, long (c .before .before .before .before .before))) (c .before .sound-if .ensures) (not-true _ (c .if1 .taken)) ∙ c .before .before .before .before .loop .inv .1
+returns c = tracks-bad (c .before .before .before .before .before .args .present) (c .before .before .before .before .loop .word) (c .before .before .before .before .before .args .t1) (c .before .before .before .before .loop .i) (c .before .before .before .before .before .args .clock) (omega (arith, long (c .before .before .before .before .before))) (c .before .kept-if .ensures) (not-true _ (c .if1 .taken)) ∙ c .before .before .before .before .loop .inv .1
 
 add-i : tie.Need-add-i Inv-loop μ-loop
 add-i c = search needs
@@ -40,10 +43,10 @@ loop-less : tie.Need-loop-less Inv-loop μ-loop
 loop-less c = search needs
 
 loop-again : tie.Need-loop-again Inv-loop μ-loop
-loop-again c = (search needs, tracks-next (c .before .before .before .before .loop .word) (c .before .before .before .before .before .args .t1) (c .before .before .before .before .loop .i) (c .before .before .before .before .before .args .clock) (omega (arith, long (c .before .before .before .before .before))) (c .before .sound-if .ensures) (not-false _ (c .if1 .left)) ∙ c .before .before .before .before .loop .inv .1)
+loop-again c = (search needs, tracks-next (c .before .before .before .before .before .args .present) (c .before .before .before .before .loop .word) (c .before .before .before .before .before .args .t1) (c .before .before .before .before .loop .i) (c .before .before .before .before .before .args .clock) (omega (arith, long (c .before .before .before .before .before))) (c .before .kept-if .ensures) (not-false _ (c .if1 .left)) ∙ c .before .before .before .before .loop .inv .1)
 
 returns-2 : tie.Need-returns-2 Inv-loop μ-loop
-returns-2 c = tracks-end (c .before .loop .word) (c .before .before .args .t1) (c .before .loop .i) (c .before .before .args .clock) (omega (arith, long (c .before .before))) ∙ c .before .loop .inv .1
+returns-2 c = tracks-end (c .before .before .args .present) (c .before .loop .word) (c .before .before .args .t1) (c .before .loop .i) (c .before .before .args .clock) (omega (arith, long (c .before .before))) ∙ c .before .loop .inv .1
 
 pub tracks-kept-spec : {M : Type 1} → statement M
 tracks-kept-spec =
@@ -54,7 +57,8 @@ tracks-kept-spec =
     loop-holds
     mul-t
     array-copy-out-t
-    sound-if-requires
+    cast-kept-if
+    kept-if-requires
     returns
     add-i
     loop-less

@@ -1,7 +1,6 @@
 use borrow.Author.Needs.{needs}
 use native.Mathlib.Omega.{arith}
 use mathlib.Core.Logic.{inl, inr, ⊎-elim}
-use mathlib.Core.Path.{_≡_}
 use Prim.Native.Nat.{_+_, _<_}
 use Rattle.board.proofs.stay.Staying.{stays-first, stays-second}
 use Rattle.board.proofs.stay.stay.Statement.{statement}

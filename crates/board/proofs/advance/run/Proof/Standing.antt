@@ -1,13 +1,16 @@
 -- Where the tick loop of `run` stands: its invariants, and what is known at its places.
 use Prim.Native.Nat.{ℕ, _+_, _-_, _*_, _≤_, _<_}
-use Rattle.board.proofs.advance.Advancing.{Going, going-full, going-leap, going-tick, boardAt, stageOf, go, quiet-none, leap-is}
+use Rattle.board.proofs.advance.Advancing.{Going, going-full, going-leap, going-tick, boardAt, stageOf, go, quiet-none, steady-none, leap-is}
 use Rattle.board.specs.Call.{world}
 use Rattle.board.specs.Advance.{Ended, turnsLeft}
 use Rattle.board.specs.declared.call.Advanced.the-variants.{Done, LogFull}
 use Rattle.board.proofs.tick.Bits.{Lowest}
 use Rattle.board.proofs.rules.Broken.{unbroken-of}
 use Rattle.board.proofs.quiet.Leaps.{unbroken-leapable, leap-tracks-word}
-use Rattle.board.proofs.advance.Turning.{Turning, turning-member, turning-leapt, turning-more, turning-still, Ticked}
+use Rattle.board.proofs.advance.Turning.{Turning, turning-member, turning-leapt, turning-more, turning-still, Played}
+use Rattle.board.proofs.advance.Judged.{fewest-same, Ticked, played-judged, played-alone}
+use Rattle.board.proofs.quiet.Bands.{leap-follow-word}
+use Rattle.board.proofs.quiet.Pairs.{Mastered, unbroken-mastered, unbroken-paired}
 use Rattle.board.proofs.tick.Steps.{tick-few, tick-long}
 use Rattle.board.proofs.tick.Staging.{length-log}
 use Rattle.board.proofs.log.Words.{length-write}
@@ -15,10 +18,11 @@ use Rattle.board.specs.Log.{writeAt, recordWidth, logBytes, capacity}
 use Rattle.board.proofs.advance.run.Tie as tie
 use Rattle.board.specs.Points.{keysOf, infosOf, trackCount}
 use Rattle.board.specs.Replay.{Each}
-use Rattle.board.specs.Quiet.{QuietFor, Fewest, CanLeap, Leapable, leapTracks, leapInto}
+use Rattle.board.specs.Steady.{SteadyFor}
+use Rattle.board.specs.Quiet.{QuietFor, masterOf, Fewest, WithMaster, CanLeap, Leapable, leapTracks, leapInto}
 use Rattle.board.specs.declared.Board.{Board}
 use Rattle.board.specs.Board.{Unbroken, trackAt, boardOf, Shaped}
-use Rattle.board.specs.Tick.{Stage, playingWord, members, tickMost}
+use Rattle.board.specs.Tick.{Stage, playingWord, followWord, members, tickMost}
 use Rattle.track.specs.declared.Track.{Track}
 use Rattle.track.specs.Rule.{clockEnd}
 use borrow.Author.Needs.{needs}
@@ -34,18 +38,18 @@ abbrev pub parts : ℕ → List ℕ → List ℕ → ℕ → Board
 parts present keys infos n = boardOf [] present keys infos n 0 0
 
 abbrev pub Inv-loop : tie.InvT-loop
-Inv-loop present keys infos n kept log slots wanted tracks₀ back word clock held taken look stage₀ reached₀ most skipped room rest₀ left₀ staged₀ m₀ more₀ tracks stage reached rest left staged m more = Turning (parts present keys infos n) tracks₀ clock word skipped stage reached tracks rest left staged m more
+Inv-loop present keys infos n kept log slots wanted tracks₀ back word led clock held taken look stage₀ reached₀ most skipped room rest₀ left₀ staged₀ m₀ more₀ tracks stage reached rest left staged m more = Turning (parts present keys infos n) tracks₀ clock word skipped stage reached tracks rest left staged m more
 
 abbrev pub μ-loop : tie.MeasureT-loop
-μ-loop present keys infos n kept log slots wanted tracks₀ back word clock held taken look stage₀ reached₀ most skipped room rest₀ left₀ staged₀ m₀ more₀ tracks stage reached rest left staged m more = left
+μ-loop present keys infos n kept log slots wanted tracks₀ back word led clock held taken look stage₀ reached₀ most skipped room rest₀ left₀ staged₀ m₀ more₀ tracks stage reached rest left staged m more = left
 
 abbrev pub Inv-ticks : tie.InvT-ticks
-Inv-ticks present keys infos n kept log₀ slots wanted tracks₀ back₀ word₀ clock₀ held₀ taken₀ look₀ stage₀ reached₀ answer₀ log tracks back word clock held taken look stage reached answer =
+Inv-ticks present keys infos n kept log₀ slots wanted tracks₀ back₀ word₀ led clock₀ held₀ taken₀ look₀ stage₀ reached₀ answer₀ log tracks back word clock held taken look stage reached answer =
     Going (boardOf tracks₀ present keys infos n clock₀ kept) wanted log₀ log tracks clock held taken answer × (word ≡ playingWord present tracks)
-    × (length stage ≡ tickMost * recordWidth) × (length reached ≡ trackCount)
+    × (length stage ≡ tickMost * recordWidth) × (length reached ≡ trackCount) × (led ≡ followWord present tracks)
 
 abbrev pub μ-ticks : tie.MeasureT-ticks
-μ-ticks present keys infos n kept log₀ slots wanted tracks₀ back₀ word₀ clock₀ held₀ taken₀ look₀ stage₀ reached₀ answer₀ log tracks back word clock held taken look stage reached answer =
+μ-ticks present keys infos n kept log₀ slots wanted tracks₀ back₀ word₀ led clock₀ held₀ taken₀ look₀ stage₀ reached₀ answer₀ log tracks back word clock held taken look stage reached answer =
     turnsLeft look (wanted - taken) (world (boardAt (boardOf tracks₀ present keys infos n clock₀ kept) tracks clock held) log)
 
 -- the board at the start, and its shape
@@ -62,7 +66,7 @@ bits s = search needs
 -- ---- a turn begins
 
 abbrev pub start : tie.In-ticks Inv-loop μ-loop Inv-ticks μ-ticks → tie.Start Inv-loop μ-loop Inv-ticks μ-ticks
-start c = c .before .before .before .before .before .before
+start c = c .before .before .before .before .before .before .before
 
 -- the board as it stands, and its rules
 abbrev pub stands : tie.In-ticks Inv-loop μ-loop Inv-ticks μ-ticks → Board
@@ -76,15 +80,44 @@ pub leapable : (c : tie.In-ticks Inv-loop μ-loop Inv-ticks μ-ticks) → Leapab
 leapable c =
     subst (λ (w : ℕ). Leapable (c .before .ticks .tracks) (members w)) (sym (c .before .ticks .inv .1)) (unbroken-leapable _ (whole c))
 
+-- the followers and their masters are present, and are pairs
+pub mastered : (c : tie.In-ticks Inv-loop μ-loop Inv-ticks μ-ticks) →
+    let k = c .before .ticks in Mastered (start c .args .present) (k .tracks) (members (followWord (start c .args .present) (k .tracks)))
+mastered c = unbroken-mastered _ (whole c)
+
+pub pairs : (c : tie.In-ticks Inv-loop μ-loop Inv-ticks μ-ticks) → Each (WithMaster (c .before .ticks .tracks)) (members (c .before .before .followers .result))
+pairs c =
+    subst (λ (w : ℕ). Each (WithMaster (c .before .ticks .tracks)) (members w)) (sym (c .before .ticks .inv .4)) (unbroken-paired _ (whole c))
+
 abbrev pub turn : tie.Joined2 Inv-loop μ-loop Inv-ticks μ-ticks → tie.In-ticks Inv-loop μ-loop Inv-ticks μ-ticks
 turn c = c .before .before .before
 
 -- the ticks leapt are quiet, and no more than are left
-pub quiets : (c : tie.Joined2 Inv-loop μ-loop Inv-ticks μ-ticks) → (r : ℕ) × (c .if2 .skipped ≤ r)
-    × Each (λ i. QuietFor (keysOf (board (start (turn c)) .points)) r i (trackAt (turn c .before .ticks .tracks) i)) (members (turn c .before .ticks .word))
+pub quiets : (c : tie.Joined2 Inv-loop μ-loop Inv-ticks μ-ticks) →
+    let k = turn c .before .ticks in
+    let s = start (turn c) in (r : ℕ) × (c .if2 .skipped ≤ r)
+    × Each (λ i. QuietFor (keysOf (board s .points)) r i (trackAt (k .tracks) i)) (members (k .word))
+    × Each (λ i. SteadyFor r (trackAt (k .tracks) i) (masterOf (k .tracks) i)) (members (followWord (s .args .present) (k .tracks)))
 quiets c =
-    ⊎-elim (λ w. (w .1 .result .0, omega (arith, w .2 .ensures, w .3), w .1 .ensures .quiet))
-    (λ w. (0, omega (arith, w .1), quiet-none _ (turn c .before .ticks .tracks) (members (turn c .before .ticks .word)))) (c .if2 .came)
+    let k = turn c .before .ticks in
+    ⊎-elim
+    (λ w. (
+      w .1 .result .0,
+      omega (arith, w .2 .ensures, w .3),
+      w .1 .ensures .quiet,
+      subst (λ (f : ℕ). Each (λ i. SteadyFor (w .1 .result .0) (trackAt (k .tracks) i) (masterOf (k .tracks) i)) (members f)) (k .inv .4)
+          (w .1 .ensures .steady),
+    ))
+    (λ w. (0, omega (arith, w .1), quiet-none _ (k .tracks) (members (k .word)), steady-none (k .tracks) _)) (c .if2 .came)
+
+pub calm : (c : tie.Joined2 Inv-loop μ-loop Inv-ticks μ-ticks) →
+    let k = turn c .before .ticks in
+    let s = start (turn c) in
+    Each (λ i. QuietFor (keysOf (board s .points)) (quiets c .0) i (trackAt (k .tracks) i)) (members (playingWord (s .args .present) (k .tracks)))
+calm c =
+    let k = turn c .before .ticks in
+    subst (λ (w : ℕ). Each (λ i. QuietFor (keysOf (board (start (turn c)) .points)) (quiets c .0) i (trackAt (k .tracks) i)) (members w)) (k .inv .1)
+    (quiets c .2)
 
 pub fewer : (c : tie.Joined2 Inv-loop μ-loop Inv-ticks μ-ticks) → c .if2 .skipped ≤ c .before .smaller .result
 fewer c = ⊎-elim (λ w. omega (arith, w .2 .ensures, w .3)) (λ w. omega (arith, w .1)) (c .if2 .came)
@@ -105,29 +138,41 @@ ahead c =
     let q = quiets c in
     let f = fewer c in
     let e = c .before .smaller .ensures in
-    going-leap _ _ _ _ _ _ _ _ _ (k .inv .0) _ (q .0) _ (k .inv .1) (leapable (turn c)) (q .2) (q .1) (omega arith) (omega arith) (sym (leapt-is c)) (whole (turn c) .clock)
+    going-leap _ _ _ _ _ _ _ _ _ (k .inv .0) _ (q .0) _ (k .inv .1) (leapable (turn c)) (q .2) (mastered (turn c)) (q .3) (q .1)
+    (omega arith) (omega arith) (sym (leapt-is c)) (whole (turn c) .clock)
 
 -- the board after the leap keeps the rules
 pub whole′ : (c : tie.Joined2 Inv-loop μ-loop Inv-ticks μ-ticks) → Unbroken (boardAt (board (start (turn c))) (leapt c) (turn c .before .ticks .clock + c .if2 .skipped) (turn c .before .ticks .held))
 whole′ c = unbroken-of _ (ahead c .whole)
 
--- where all that can be taken was quiet: where the loop stands after the leap
+-- where all that can be taken was quiet: the tracks after the leap, and where the loop stands then
+pub all-leapt : (c : tie.After-leapt Inv-loop μ-loop Inv-ticks μ-ticks) →
+    let j = c .before .before in c .leapt .result ≡ leapTracks (j .before .smaller .result) (start (turn j) .args .present) (turn j .before .ticks .tracks)
+all-leapt c =
+    let j = c .before .before in
+    let k = turn j .before .ticks in
+    c .leapt .ensures ∙ leap-is (j .before .smaller .result) _ _ (k .tracks) (k .inv .1) (k .inv .0 .tracks-long)
+
 pub leapt-all : (c : tie.After-leapt Inv-loop μ-loop Inv-ticks μ-ticks) →
     let j = c .before .before in
     let k = turn j .before .ticks in
+    let s = start (turn j) in
     let most = j .before .smaller .result in
-    Going (board (start (turn j))) (start (turn j) .args .count .0) (start (turn j) .args .log .now) (k .log) (c .leapt .result) (k .clock + most) (k .held) (k .taken + most)
-    (Done (record { 0 = k .taken + most })) × (k .word ≡ playingWord (start (turn j) .args .present) (c .leapt .result))
+    Going (board s) (s .args .count .0) (s .args .log .now) (k .log) (c .leapt .result) (k .clock + most) (k .held) (k .taken + most)
+    (Done (record { 0 = k .taken + most }))
+    × (k .word ≡ playingWord (s .args .present) (c .leapt .result))
+    × (turn j .before .before .followers .result ≡ followWord (s .args .present) (c .leapt .result))
 leapt-all c =
     let j = c .before .before in
     let k = turn j .before .ticks in
     let q = quiets j in
     let e = j .before .smaller .ensures in
     let s = c .before .if3 .taken in
-    let l = c .leapt .ensures in (
-      going-leap _ _ _ _ _ _ _ _ _ (k .inv .0) _ (q .0) _ (k .inv .1) (leapable (turn j)) (q .2) (omega (arith, q .1)) (omega arith) (omega arith) l (whole (turn j) .clock),
-      k .inv .1 ∙ sym (leap-tracks-word (j .before .smaller .result) _ (k .tracks))
-          ∙ ap (playingWord (start (turn j) .args .present)) (sym (l ∙ leap-is (j .before .smaller .result) _ _ (k .tracks) (k .inv .1) (k .inv .0 .tracks-long))),
+    let most = j .before .smaller .result in (
+      going-leap _ _ _ _ _ _ _ _ _ (k .inv .0) _ (q .0) _ (k .inv .1) (leapable (turn j)) (q .2) (mastered (turn j)) (q .3)
+          (omega (arith, q .1)) (omega arith) (omega arith) (c .leapt .ensures) (whole (turn j) .clock),
+      k .inv .1 ∙ sym (leap-tracks-word most _ (k .tracks)) ∙ ap (playingWord (start (turn j) .args .present)) (sym (all-leapt c)),
+      k .inv .4 ∙ sym (leap-follow-word most _ (k .tracks)) ∙ ap (followWord (start (turn j) .args .present)) (sym (all-leapt c)),
     )
 
 -- a tick is left to walk
@@ -138,16 +183,17 @@ short c = let f = fewer (c .before) in let n = c .if3 .left in omega arith
 pub longest : (c : tie.Else3 Inv-loop μ-loop Inv-ticks μ-ticks) →
     let j = c .before in
     let k = turn j .before .ticks in
-    k .look ≡ true → Fewest (keysOf (board (start (turn j)) .points)) (k .tracks) (members (playingWord (start (turn j) .args .present) (k .tracks))) clockEnd (j .if2 .skipped)
+    let s = start (turn j) in
+    k .look ≡ true → Fewest (keysOf (board s .points)) (k .tracks) (members (playingWord (s .args .present) (k .tracks)))
+    (members (followWord (s .args .present) (k .tracks))) clockEnd (j .if2 .skipped)
 longest c e =
     let j = c .before in
     let k = turn j .before .ticks in
     let n = short c in
     ⊎-elim
     (λ w.
-    let s : j .if2 .skipped ≡ w .1 .result .0 = omega (arith, w .2 .ensures, w .3) in
-    subst (λ (i : ℕ). Fewest (keysOf (board (start (turn j)) .points)) (k .tracks) (members i) clockEnd (j .if2 .skipped)) (k .inv .1)
-    (subst (λ (r : ℕ). Fewest (keysOf (board (start (turn j)) .points)) (k .tracks) (members (k .word)) clockEnd r) (sym s) (w .1 .ensures)))
+    let s : w .1 .result .0 ≡ j .if2 .skipped = omega (arith, w .2 .ensures, w .3) in
+    fewest-same (k .inv .1) (k .inv .4) s (w .1 .ensures))
     (λ w. absurd (true≢false (sym e ∙ w .0 .left))) (j .if2 .came)
 
 -- ---- the walk
@@ -179,16 +225,18 @@ tickAt c =
     let k = turn (leap-at c) .before .ticks in
     stageOf (board (entry c)) (k .log) (leapt (leap-at c)) (k .clock + leap-at c .if2 .skipped) (k .held)
 
-abbrev pub tick : tie.Joined6 Inv-loop μ-loop Inv-ticks μ-ticks → Stage
-tick c = tickAt (c .before .before .before .before)
+abbrev pub tick : tie.Joined7 Inv-loop μ-loop Inv-ticks μ-ticks → Stage
+tick c = tickAt (c .before .before .before .before .before)
 
-pub done : (c : tie.Joined6 Inv-loop μ-loop Inv-ticks μ-ticks) →
+-- its steps and commands
+pub played : (c : tie.Joined6 Inv-loop μ-loop Inv-ticks μ-ticks) →
     let k = c .before .before .before .before in
     let s = entry k .args in
-    Ticked (parts (s .present) (s .keys .now) (s .infos .now) (s .n)) (leapt (leap-at k)) (turn (leap-at k) .before .ticks .clock + leap-at k .if2 .skipped) (c .if6 .tracks) (c .if6 .total) (c .if6 .stage) (c .if6 .word)
-done c =
+    Played (parts (s .present) (s .keys .now) (s .infos .now) (s .n)) (leapt (leap-at k)) (turn (leap-at k) .before .ticks .clock + leap-at k .if2 .skipped)
+    (c .if6 .tracks) (c .if6 .total) (c .if6 .stage) (c .if6 .word)
+played c =
     let k = c .before .before .loop in
-    let w = c .before .before .before .before .before .before .before .before .before .before .ticks .inv .1 in
+    let w = turn (leap-at (c .before .before .before .before)) .before .ticks .inv .1 in
     let l = c .before .loop-test .left in
     ⊎-elim
     (λ r.
@@ -196,32 +244,58 @@ done c =
     (r .7 ∙ r .3 .ensures .1 .1 .1 ∙ ap (playingWord _) (sym (r .6))))
     (λ r. turning-still _ _ _ _ _ w _ _ _ _ _ _ _ _ (k .inv) l (r .0 .left) (r .1) (r .4) (r .3) (r .2)) (c .if6 .came)
 
-pub few : (c : tie.Joined6 Inv-loop μ-loop Inv-ticks μ-ticks) → c .if6 .total ≤ tickMost
+-- its followers
+pub leads : (c : tie.Joined2 Inv-loop μ-loop Inv-ticks μ-ticks) →
+    turn c .before .before .followers .result ≡ followWord (start (turn c) .args .present) (leapt c)
+leads c = let k = turn c .before .ticks in k .inv .4 ∙ sym (leap-follow-word (c .if2 .skipped) _ (k .tracks))
+
+pub done : (c : tie.Joined7 Inv-loop μ-loop Inv-ticks μ-ticks) →
+    let k = c .before .before .before .before .before in
+    let s = entry k .args in
+    Ticked (parts (s .present) (s .keys .now) (s .infos .now) (s .n)) (leapt (leap-at k)) (turn (leap-at k) .before .ticks .clock + leap-at k .if2 .skipped)
+    (c .if7 .tracks) (c .if7 .total) (c .if7 .stage) (c .before .if6 .word)
+done c =
+    let p = played (c .before) in
+    let e = leads (leap-at (c .before .before .before .before .before)) in
+    ⊎-elim
+    (λ r. played-judged _ _ _ _ _ _ _ p _ e (r .5 ∙ r .2 .ensures .0) (r .7 ∙ r .2 .ensures .1 .0) (r .6 ∙ r .2 .ensures .1 .1))
+    (λ r. played-alone _ _ _ _ _ _ _ p _ e (r .0 .left) (r .1) (r .3) (r .2)) (c .if7 .came)
+
+pub few : (c : tie.Joined7 Inv-loop μ-loop Inv-ticks μ-ticks) → c .if7 .total ≤ tickMost
 few c =
-    let k = c .before .before .before .before in
+    let k = c .before .before .before .before .before in
     let b = board (entry k) in
     omega (arith, done c .count, tick-few (keysOf (b .points)) (infosOf (b .points)) (turn (leap-at k) .before .ticks .clock + leap-at k .if2 .skipped + 1) (b .present) (leapt (leap-at k)))
 
--- the tick is taken: where the loop stands after it
+-- the tick is taken: the log, and where the loop stands after it
+pub logged : (c : tie.After-slice-known2 Inv-loop μ-loop Inv-ticks μ-ticks) →
+    let j = c .before .before .before .before .before .before .before in
+    let k = turn (leap-at (j .before .before .before .before .before)) .before .ticks in
+    c .before .before .commit .last .0 ≡ writeAt (k .log) (k .held * recordWidth) (logBytes (tick j .records))
+logged c =
+    let j = c .before .before .before .before .before .before .before in
+    let k = turn (leap-at (j .before .before .before .before .before)) .before .ticks in
+    c .before .before .commit .ensures ∙ ap (writeAt (k .log) (k .held * recordWidth)) (done j .bytes)
+
 pub walked : (c : tie.After-slice-known2 Inv-loop μ-loop Inv-ticks μ-ticks) →
     let d = c .before .before .before .before .before .before .before in
-    let j = c .before .before .before .before .before .before .before .before .before .before .before .before .before in
+    let j = c .before .before .before .before .before .before .before .before .before .before .before .before .before .before in
     let k = turn j .before .ticks in
-    Going (board (start (turn j))) (start (turn j) .args .count .0) (start (turn j) .args .log .now) (c .before .before .commit .last .0) (d .if6 .tracks) (k .clock + j .if2 .skipped + 1) (k .held + d .if6 .total) (k .taken + j .if2 .skipped + 1)
+    Going (board (start (turn j))) (start (turn j) .args .count .0) (start (turn j) .args .log .now) (c .before .before .commit .last .0) (d .if7 .tracks) (k .clock + j .if2 .skipped + 1) (k .held + d .if7 .total) (k .taken + j .if2 .skipped + 1)
     (Done (record { 0 = k .taken + j .if2 .skipped + 1 }))
 walked c =
-    let j = c .before .before .before .before .before .before .before .before .before .before .before .before .before in
+    let j = c .before .before .before .before .before .before .before .before .before .before .before .before .before .before in
     let k = turn j .before .ticks in
     let d = done (c .before .before .before .before .before .before .before) in
     let g = ahead j in
-    let n = short (c .before .before .before .before .before .before .before .before .before .before .before .before) in
+    let n = short (c .before .before .before .before .before .before .before .before .before .before .before .before .before) in
     let e = j .before .smaller .ensures in
     let rs = tick (c .before .before .before .before .before .before .before) .records in
-    let bytes = c .before .before .commit .ensures ∙ ap (writeAt (k .log) (k .held * recordWidth)) (d .bytes) in
-    going-tick _ _ _ _ _ _ _ _ _ g (omega (arith, turn j .ticks-test .taken)) (omega (arith, whole (turn j) .clock)) (d .tracks) (d .count) (omega (arith, c .before .before .before .before .before .before .if7 .left))
+    let bytes = logged c in
+    going-tick _ _ _ _ _ _ _ _ _ g (omega (arith, turn j .ticks-test .taken)) (omega (arith, whole (turn j) .clock)) (d .tracks) (d .count) (omega (arith, c .before .before .before .before .before .before .if8 .left))
     bytes
     (ap length bytes ∙ length-write (k .log) (logBytes rs) (k .held * recordWidth)
-    (omega (arith, length-log rs, d .count, g .fits, g .long, c .before .before .before .before .before .before .if7 .left)))
+    (omega (arith, length-log rs, d .count, g .fits, g .long, c .before .before .before .before .before .before .if8 .left)))
     (ap length (d .tracks) ∙ tick-long _ _ _ _ _ ∙ g .tracks-long)
 
 -- its records don't fit: the tracks are those that the leap left

@@ -2,8 +2,8 @@ use borrow.Author.Needs.{needs}
 use native.Mathlib.Omega.{arith}
 use mathlib.Core.Logic.{inl}
 use Rattle.board.proofs.stay.Staying.{stays-high, stays-ever, stays-above}
-use Rattle.board.proofs.stay.ahead.Statement.{statement}
-use Rattle.board.proofs.stay.ahead.Tie as tie
+use Rattle.board.proofs.stay.leading.Statement.{statement}
+use Rattle.board.proofs.stay.leading.Tie as tie
 
 add-if1 : tie.Need-add-if1
 add-if1 c = search needs
@@ -22,28 +22,40 @@ returns-2 c =
     let s = c .before .before in
     stays-ever _ _ _ _ _ _ (c .if2 .taken) (inl (record { off = s .pre .1 .1; low = s .pre .1 .0; high = c .before .if1 .left }))
 
-add-capped : tie.Need-add-capped
-add-capped c = search needs
+add-at-most-end : tie.Need-add-at-most-end
+add-at-most-end c = search needs
 
-sub-capped : tie.Need-sub-capped
-sub-capped c = search needs
+sub-at-most-end : tie.Need-sub-at-most-end
+sub-at-most-end c = search needs
 
-sub-capped-2 : tie.Need-sub-capped-2
-sub-capped-2 c = search needs
+sub-at-most-end-2 : tie.Need-sub-at-most-end-2
+sub-at-most-end-2 c = search needs
 
-div-capped : tie.Need-div-capped
-div-capped c = search needs
+div-at-most-end : tie.Need-div-at-most-end
+div-at-most-end c = search needs
 
-capped-requires : tie.Need-capped-requires
-capped-requires c κs = search needs
+at-most-end-requires : tie.Need-at-most-end-requires
+at-most-end-requires c κs = search needs
 
 returns-3 : tie.Need-returns-3
 returns-3 c =
     let s = c .before .before .before in
-    let e = c .capped .ensures in
+    let e = c .at-most-end .ensures in
     stays-above _ _ _ _ _ _ (s .pre .1 .0) (omega (arith, c .before .if2 .left)) _ (omega arith) (s .pre .1 .1)
     (c .before .before .if1 .left) (omega arith) (λ h. omega arith)
 
-pub ahead-spec : {M : Type 1} → statement M
-ahead-spec =
-    tie.close (tie.spec add-if1 add-if1-2 add-if1-3 returns returns-2 add-capped sub-capped sub-capped-2 div-capped capped-requires returns-3)
+pub leading-spec : {M : Type 1} → statement M
+leading-spec =
+    tie.close
+    (tie.spec
+    add-if1
+    add-if1-2
+    add-if1-3
+    returns
+    returns-2
+    add-at-most-end
+    sub-at-most-end
+    sub-at-most-end-2
+    div-at-most-end
+    at-most-end-requires
+    returns-3)

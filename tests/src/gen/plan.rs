@@ -1,0 +1,117 @@
+//! The profiles of lists, and how each draws.
+
+#[derive(Clone, Copy, Debug, PartialEq, Eq)]
+pub enum Profile {
+    Typical,
+    /// short spans, points nearly everywhere, commands at each other
+    Dense,
+    /// arguments at the edges of their ranges
+    Edges,
+    /// logs of 0 to 80 bytes or a few records
+    SmallLog,
+    /// arguments at the ends of i64 and beside what fewer bits hold
+    Extremes,
+    Queries,
+    /// few tracks of short spans that follow each other, often in step
+    Followers,
+    /// about 256 points
+    Full,
+}
+
+impl Profile {
+    /// Whether its lists have master calls.
+    pub fn has_masters(self) -> bool {
+        plan(self).masters > 0
+    }
+}
+
+/// Full, whose lists are long, is the last.
+pub const PROFILES: [Profile; 8] = [
+    Profile::Typical,
+    Profile::Dense,
+    Profile::Edges,
+    Profile::SmallLog,
+    Profile::Extremes,
+    Profile::Queries,
+    Profile::Followers,
+    Profile::Full,
+];
+
+/// How a profile draws.
+pub struct Plan {
+    /// tracks and points of the set-up, at most
+    pub tracks: i64,
+    pub points: i64,
+    /// locations of a track beyond its min, at most
+    pub reach: i64,
+    /// actions of a track in the set-up, at most
+    pub actions: i64,
+    /// calls after the set-up
+    pub calls: i64,
+    /// arguments in a hundred from an edge, and whether from the ends of i64 too
+    pub wild: i64,
+    pub extremes: bool,
+    /// set-up calls, mode calls, advances, clears and queries in the draw
+    pub weights: [i64; 5],
+    /// master calls in a hundred set-up calls
+    pub masters: i64,
+    pub followers: Option<Followers>,
+    /// the most ticks of an advance that nothing stops
+    pub large: i64,
+}
+
+/// What only lists of followers have, in a hundred.
+pub struct Followers {
+    /// tracks whose span has the list's one length
+    pub alike: i64,
+    /// tracks that name a master, and that repeat, in the set-up
+    pub led: i64,
+    pub repeats: i64,
+    /// draws that are a track's pause, move and resume, or its stop and play
+    pub moves: i64,
+    /// clears after an advance that the log stopped
+    pub clears: i64,
+}
+
+pub fn plan(profile: Profile) -> Plan {
+    let usual = Plan {
+        tracks: 5,
+        points: 16,
+        reach: 12,
+        actions: 4,
+        calls: 50,
+        wild: 2,
+        extremes: false,
+        weights: [20, 25, 40, 2, 5],
+        masters: 0,
+        followers: None,
+        large: LARGE,
+    };
+    let followers = Followers { alike: 50, led: 85, repeats: 60, moves: 12, clears: 40 };
+    match profile {
+        Profile::Typical => usual,
+        Profile::Dense => {
+            Plan { tracks: 22, points: 90, reach: 4, actions: 12, weights: [8, 30, 50, 4, 2], masters: 25, ..usual }
+        }
+        Profile::Edges => Plan { wild: 35, masters: 10, ..usual },
+        Profile::SmallLog => Plan { reach: 5, actions: 8, weights: [8, 40, 45, 10, 4], ..usual },
+        Profile::Extremes => Plan { wild: 25, extremes: true, weights: [40, 15, 25, 2, 20], masters: 10, ..usual },
+        Profile::Queries => Plan { calls: 80, wild: 4, weights: [15, 15, 25, 2, 60], ..usual },
+        Profile::Followers => Plan {
+            tracks: 6,
+            points: 4,
+            reach: 11,
+            actions: 2,
+            wild: 3,
+            weights: [18, 25, 48, 3, 3],
+            masters: 30,
+            followers: Some(followers),
+            large: 5_000,
+            ..usual
+        },
+        Profile::Full => Plan { tracks: 16, points: 700, reach: 90, weights: [50, 15, 20, 2, 20], ..usual },
+    }
+}
+
+/// More ticks than these are asked only of a board that stops before.
+pub const LARGE: i64 = 2_000;
