@@ -40,8 +40,9 @@ pub struct Left {
 }
 
 // So many ticks of an unbroken board, given by its parts, unless the clock or the log ends them. Each turn leaps the quiet ticks
-// ahead and walks the one behind them: its steps, its commands, then the bands of its followers. After a tick with records the next is
-// walked without looking for a leap.
+// ahead and works out the one behind them in one pass over the playing tracks: their steps, then the commands of the points reached,
+// then the bands of the followers. Its records are staged apart from the log, and the tick is kept if they fit. After a tick with
+// records the next is walked without looking for a leap.
 fn run<'a>(
     given: [Track; Board::TRACKS],
     present: u16,
@@ -90,13 +91,16 @@ fn run<'a>(
             answer = Advanced::Done(Ticks(taken));
             continue 'ticks;
         }
-        let room = slots - held;
-        if room < Staged::MOST {
-            let moved = leapt(tracks, word, Ticks(skipped));
-            back = moved;
-        }
         clock += skipped;
         taken += skipped;
+        let room = slots - held;
+        // Where the records might not fit, the tracks are leapt before the pass, to have them to go back to, and not in it.
+        if room < Staged::MOST {
+            let moved = leapt(tracks, word, Ticks(skipped));
+            tracks = moved;
+            back = moved;
+            skipped = 0;
+        }
         let mut rest = word;
         let mut left = u16::count_ones(word);
         let mut staged: usize = 0;

@@ -1,6 +1,6 @@
 -- The laws of a turn of the tick loop: quiet ticks leapt and one tick walked, in one pass over the members of the playing word.
 use Prim.Native.Nat.{ℕ, zero, suc, _+_, _-_, _*_, _/_, _%_, _≤_, _<_}
-use mathlib.Core.Path.{_≡_, refl, sym, _∙_, ap, subst}
+use mathlib.Core.Path.{_≡_, refl, sym, _∙_, ap, ap₂, subst}
 use mathlib.Core.Bool.{Bool, true, false, cond, not, _||_, true≢false}
 use mathlib.Core.List.{List, [], _∷_, _++_}
 use native.Mathlib.Omega.{arith}
@@ -28,7 +28,7 @@ use Rattle.board.proofs.points.Keys.{ascending-head, ascending-rest}
 use Rattle.board.proofs.points.Rows.{ascending-weaken}
 use Rattle.board.proofs.tick.Bits.{Lowest, cleared}
 use Rattle.board.proofs.tick.Commands.{tracksRun, recordsRun}
-use Rattle.board.proofs.quiet.Leaps.{leap-into, leap-tracks-long, leap-tracks-word}
+use Rattle.board.proofs.quiet.Leaps.{leap-into, leap-tracks-long, leap-tracks-word, leap-tracks-zero}
 use Rattle.board.proofs.advance.Members.{Stepping, stepping-start, stepping-step, stepping-over, stepping-done, member-left, each-set, none-left}
 use Rattle.board.proofs.quiet.Players.{EachPlaying, bit-plays, each-member, word-small}
 use Rattle.board.proofs.tick.Staging.{write-none}
@@ -141,6 +141,42 @@ needs-more-not before d mode = go before (eqb (commandOf d) 0) (eqb mode PLAYING
     go false false c f g e = absurd (true≢false e)
     go false true false f g e = absurd (true≢false e)
     go false true true f g e = (refl, f refl, g refl)
+
+-- ---- where the pass begins
+
+-- `skipped` ticks on from the tracks `before` is `left` ticks on from the tracks `ts`, and the same of these tracks play
+pub record Begins (present skipped : ℕ) (before : List Track) (left : ℕ) (ts : List Track) : Type 0 where
+  pub leaps : leapTracks left present ts ≡ leapTracks skipped present before
+  pub few : left ≤ skipped
+  pub word : playingWord present ts ≡ playingWord present before
+  pub long : length ts ≡ trackCount
+  pub leapable : Leapable ts (members (playingWord present ts))
+
+module _ (present skipped : ℕ) (before : List Track) (l : length before ≡ trackCount) {left : ℕ} {ts : List Track} where
+  -- none of them is leapt before the pass
+  pub begins-before : ts ≡ before → left ≡ skipped → Leapable before (members (playingWord present before)) → Begins present skipped before left ts
+  begins-before et el a =
+      record {
+        leaps = ap₂ (λ (k : ℕ) (us : List Track). leapTracks k present us) el et;
+        few = omega (arith, el);
+        word = ap (playingWord present) et;
+        long = ap length et ∙ l;
+        leapable = subst (λ (us : List Track). Leapable us (members (playingWord present us))) (sym et) a;
+      }
+
+  -- all of them are
+  pub begins-leapt : ts ≡ leapTracks skipped present before → left ≡ 0 →
+      Leapable (leapTracks skipped present before) (members (playingWord present (leapTracks skipped present before))) → Begins present skipped before left ts
+  begins-leapt et el a =
+      let after = leapTracks skipped present before in
+      let l′ : length after ≡ trackCount = leap-tracks-long skipped present before ∙ l in
+      record {
+        leaps = ap₂ (λ (k : ℕ) (us : List Track). leapTracks k present us) el et ∙ leap-tracks-zero present after l′ a;
+        few = omega (arith, el);
+        word = ap (playingWord present) et ∙ leap-tracks-word skipped present before;
+        long = ap length et ∙ l′;
+        leapable = subst (λ (us : List Track). Leapable us (members (playingWord present us))) (sym et) a;
+      }
 
 -- ---- a turn, as far as it has gone
 

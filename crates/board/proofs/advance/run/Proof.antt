@@ -1,6 +1,6 @@
 use Prim.Native.Nat.{ℕ, _+_}
 use Rattle.board.proofs.advance.run.Proof.Standing.{Inv-loop, μ-loop, Inv-ticks, μ-ticks, board, bits, shape, start, whole, leapable, mastered, pairs, turn, quiets, calm, fewer, leapt, ahead, whole′}
-use Rattle.board.proofs.advance.run.Proof.Standing.{all-leapt, leapt-all, short, longest, leap-at, entry, member, stepping, played, leads, done, few, logged, walked, full}
+use Rattle.board.proofs.advance.run.Proof.Standing.{all-leapt, leapt-all, short, longest, leap-at, entry, begins, same-word, over, member, stepping, played, leads, done, few, logged, walked, full}
 use Rattle.board.proofs.advance.Cost.{leap-less, walk-less}
 use Rattle.board.proofs.advance.Advancing.{going-start, going-ends, going-done, boardAt, whole-points}
 use Rattle.board.proofs.quiet.Leaps.{unbroken-leapable, unbroken-infos}
@@ -13,11 +13,17 @@ use Rattle.board.proofs.tick.Found.{found-rule}
 use Rattle.board.proofs.advance.run.Statement.{statement}
 use Rattle.board.proofs.advance.run.Tie as tie
 use Rattle.board.specs.Points.{key, keysOf, infosOf, infoAt}
-use Rattle.board.specs.Tick.{followWord, bandCount, InfoRule}
+use Rattle.board.specs.Board.{trackAt, isPresent}
+use Rattle.board.specs.Quiet.{Leapable}
+use Rattle.board.specs.Tick.{members, playingWord, followWord, bandCount, InfoRule}
+use Rattle.track.specs.declared.Track.{Track}
+use Rattle.track.specs.Rule.{Valid}
 use Rattle.track.proofs.Arrivals.{arrival-inside}
 use borrow.Author.Needs.{needs}
 use lib.Count.{trailingZeros}
-use mathlib.Core.Path.{refl, sym, _∙_, ap, subst}
+use mathlib.Core.Path.{_≡_, refl, sym, _∙_, ap, subst}
+use mathlib.Core.Bool.{true}
+use mathlib.Core.List.{List}
 use native.Mathlib.Omega.{arith}
 mod Standing
 
@@ -79,32 +85,35 @@ ticks-again c =
     let k = turn (c .before .before) .before .ticks in
     (l .0, l .1, k .inv .2, k .inv .3, l .2)
 
-sub-room : tie.Need-sub-room Inv-loop μ-loop Inv-ticks μ-ticks
-sub-room c = omega (arith, c .before .before .before .before .before .ticks .inv .0 .fits)
-
-leapt-requires-2 : tie.Need-leapt-requires-2 Inv-loop μ-loop Inv-ticks μ-ticks
-leapt-requires-2 c κs =
-    let j = c .before .before in
-    let f = fewer j in
-    (leapable (turn j), omega (arith, j .before .smaller .ensures))
-
 add-clock-2 : tie.Need-add-clock-2 Inv-loop μ-loop Inv-ticks μ-ticks
 add-clock-2 c =
-    let j = c .before .before .before in
+    let j = c .before .before in
     let f = fewer j in
     omega (arith, j .before .smaller .ensures, whole (turn j) .clock)
 
 add-taken-2 : tie.Need-add-taken-2 Inv-loop μ-loop Inv-ticks μ-ticks
 add-taken-2 c =
-    let j = c .before .before .before in
+    let j = c .before .before in
     let f = fewer j in
     omega (arith, j .before .smaller .ensures, turn j .ticks-test .taken, bits (start (turn j)))
 
+sub-room : tie.Need-sub-room Inv-loop μ-loop Inv-ticks μ-ticks
+sub-room c = omega (arith, c .before .before .before .before .before .before .ticks .inv .0 .fits)
+
+leapt-requires-2 : tie.Need-leapt-requires-2 Inv-loop μ-loop Inv-ticks μ-ticks
+leapt-requires-2 c κs =
+    let j = c .before .before .before in
+    let f = fewer j in
+    (leapable (turn j), omega (arith, j .before .smaller .ensures))
+
 loop-holds : tie.Need-loop-holds Inv-loop μ-loop Inv-ticks μ-ticks
 loop-holds c =
-    let j = c .before .before .before in
-    let k = turn j .before .ticks in
-    turning-start _ _ _ _ _ _ _ (k .inv .1) (k .inv .0 .tracks-long) (leapable (turn j)) (unbroken-leapable _ (whole′ j)) (λ i h. whole′ j .tracks i h .valid) (k .inv .2) (k .inv .3)
+    let k = turn (leap-at c) .before .ticks in
+    let w = whole′ (leap-at c) in
+    let present = entry c .args .present in
+    turning-start _ _ _ _ _ _ _ (same-word c) (begins c .long) (subst (λ (w : ℕ). Leapable (c .if4 .tracks) (members w)) (sym (same-word c)) (begins c .leapable))
+    (subst (λ (us : List Track). Leapable us (members (playingWord present us))) (sym (begins c .leaps)) (unbroken-leapable _ w))
+    (subst (λ (us : List Track). (i : ℕ) → isPresent present i ≡ true → Valid (trackAt us i)) (sym (begins c .leaps)) (λ i h. w .tracks i h .valid)) (k .inv .2) (k .inv .3)
 
 cast-i : tie.Need-cast-i Inv-loop μ-loop Inv-ticks μ-ticks
 cast-i c = record { fits = (let l = member c .inside in omega arith) }
@@ -118,10 +127,10 @@ array-copy-out-s c = omega (arith, member c .inside, c .before .loop .inv .long)
 leap-requires : tie.Need-leap-requires Inv-loop μ-loop Inv-ticks μ-ticks
 leap-requires c κs =
     let i = c .before in
-    let j = c .before .before .before .before .before .before in
+    let g = c .before .before .before in
+    let j = leap-at g in
     let a = turning-leapable _ _ _ _ _ _ _ _ _ _ _ _ _ (i .before .loop .inv) (i .loop-test .taken) in
-    let f = fewer j in
-    (a .valid, (a .passes, omega (arith, j .before .smaller .ensures)))
+    (a .valid, (a .passes, omega (arith, j .before .smaller .ensures, fewer j, begins g .few)))
 
 arrival-requires : tie.Need-arrival-requires Inv-loop μ-loop Inv-ticks μ-ticks
 arrival-requires c κs = stepping c .valid
@@ -225,9 +234,9 @@ loop-less c = search needs
 
 loop-again : tie.Need-loop-again Inv-loop μ-loop Inv-ticks μ-ticks
 loop-again c =
-    turning-store _ _ _ _ _ _ _ _ _ _ _ _ _ (c .before .before .before .before .before .before .before .before .before .before .before .before .before .before .before .before .before .before .loop .inv) (c .before .before .before .before .before .before .before .before .before .before .before .before .before .before .before .before .before .loop-test .taken) _ (whole-points (boardAt (board (entry (c .before .before .before .before .before .before .before .before .before .before .before .before .before .before .before .before .before .before .before .before))) (leapt (leap-at (c .before .before .before .before .before .before .before .before .before .before .before .before .before .before .before .before .before .before .before .before))) (turn (leap-at (c .before .before .before .before .before .before .before .before .before .before .before .before .before .before .before .before .before .before .before .before)) .before .ticks .clock + leap-at (c .before .before .before .before .before .before .before .before .before .before .before .before .before .before .before .before .before .before .before .before) .if2 .skipped) (turn (leap-at (c .before .before .before .before .before .before .before .before .before .before .before .before .before .before .before .before .before .before .before .before)) .before .ticks .held)) (ahead (leap-at (c .before .before .before .before .before .before .before .before .before .before .before .before .before .before .before .before .before .before .before .before)) .whole))
+    turning-store _ _ _ _ _ _ _ _ _ _ _ _ _ (c .before .before .before .before .before .before .before .before .before .before .before .before .before .before .before .before .before .before .loop .inv) (c .before .before .before .before .before .before .before .before .before .before .before .before .before .before .before .before .before .loop-test .taken) _ (whole-points (boardAt (board (entry (c .before .before .before .before .before .before .before .before .before .before .before .before .before .before .before .before .before .before .before))) (leapt (leap-at (c .before .before .before .before .before .before .before .before .before .before .before .before .before .before .before .before .before .before .before))) (turn (leap-at (c .before .before .before .before .before .before .before .before .before .before .before .before .before .before .before .before .before .before .before)) .before .ticks .clock + leap-at (c .before .before .before .before .before .before .before .before .before .before .before .before .before .before .before .before .before .before .before) .if2 .skipped) (turn (leap-at (c .before .before .before .before .before .before .before .before .before .before .before .before .before .before .before .before .before .before .before)) .before .ticks .held)) (ahead (leap-at (c .before .before .before .before .before .before .before .before .before .before .before .before .before .before .before .before .before .before .before)) .whole))
     (c .before .before .before .before .before .before .before .before .before .before .before .before .before .before .before .leap .ensures)
-    (c .before .before .before .before .before .before .before .before .before .before .before .before .info-at .ensures ∙ ap (λ (l : ℕ). infoAt (key (trailingZeros 16 (c .before .before .before .before .before .before .before .before .before .before .before .before .before .before .before .before .before .before .loop .rest)) l) (keysOf (board (entry (c .before .before .before .before .before .before .before .before .before .before .before .before .before .before .before .before .before .before .before .before)) .points)) (infosOf (board (entry (c .before .before .before .before .before .before .before .before .before .before .before .before .before .before .before .before .before .before .before .before)) .points))) (c .before .before .before .before .before .before .before .before .before .before .before .before .before .before .arrival .ensures))
+    (c .before .before .before .before .before .before .before .before .before .before .before .before .info-at .ensures ∙ ap (λ (l : ℕ). infoAt (key (trailingZeros 16 (c .before .before .before .before .before .before .before .before .before .before .before .before .before .before .before .before .before .before .loop .rest)) l) (keysOf (board (entry (c .before .before .before .before .before .before .before .before .before .before .before .before .before .before .before .before .before .before .before)) .points)) (infosOf (board (entry (c .before .before .before .before .before .before .before .before .before .before .before .before .before .before .before .before .before .before .before)) .points))) (c .before .before .before .before .before .before .before .before .before .before .before .before .before .before .arrival .ensures))
     (c .before .before .before .before .before .before .before .before .before .before .step-member .ensures .0) (c .before .before .before .before .before .before .before .before .before .before .step-member .ensures .1)
     (c .before .before .before .note .ensures .0) (c .before .before .before .note .ensures .1 .0) (c .before .before .before .note .ensures .1 .1) (c .before .needs-more .ensures)
 
@@ -247,12 +256,12 @@ run-commands-requires c κs =
     let k = c .before .before .before .before .loop in
     let v = k .inv .steps in (
       omega (arith, v .few-reached, v .reached-long),
-      (turning-rule _ _ _ _ _ (c .before .before .before .before .before .before .before .before .before .before .before .before .ticks .inv .1) _ _ _ _ _ _ _ _ (k .inv) (c .before .before .before .loop-test .left), omega (arith, v .few-reached, v .few-records, v .stage-long)),
+      (turning-rule _ _ _ _ _ (same-word (c .before .before .before .before .before)) _ _ _ _ _ _ _ _ (k .inv) (c .before .before .before .loop-test .left), omega (arith, v .few-reached, v .few-records, v .stage-long)),
     )
 
 add-t89 : tie.Need-add-t89 Inv-loop μ-loop Inv-ticks μ-ticks
 add-t89 c =
-    let j = leap-at (c .before .before .before .before .before) in
+    let j = leap-at (c .before .before .before .before) in
     let n = short (c .before .before .before .before .before .before) in
     omega (arith, j .before .smaller .ensures, whole (turn j) .clock)
 
@@ -262,7 +271,7 @@ slice-aggregate-judge-bands c = sym (played (c .before .before) .stage-long)
 judge-bands-requires : tie.Need-judge-bands-requires Inv-loop μ-loop Inv-ticks μ-ticks
 judge-bands-requires c κs =
     let p = played (c .before .before) in
-    let j = leap-at (c .before .before .before .before .before .before) in
+    let j = leap-at (c .before .before .before .before .before) in
     (played-rules _ _ _ _ _ _ _ p _ (leads j) (unbroken-rules _ _ (whole′ j)), played-room _ _ _ _ _ _ _ p)
 
 mul-commit : tie.Need-mul-commit Inv-loop μ-loop Inv-ticks μ-ticks
@@ -309,7 +318,7 @@ ticks-again-2 : tie.Need-ticks-again-2 Inv-loop μ-loop Inv-ticks μ-ticks
 ticks-again-2 c =
     let m = c .before .before .before .before .before .before .before in
     let d = done m in
-    let j = leap-at (m .before .before .before .before .before) in (
+    let j = leap-at (m .before .before .before .before) in (
       walked c,
       d .word-is,
       d .stage-long,
@@ -334,13 +343,13 @@ same-length-3 c = c .before .before .before .before .before .before .before .bef
 
 returns-3 : tie.Need-returns-3 Inv-loop μ-loop Inv-ticks μ-ticks
 returns-3 c =
-    let v = turning-store _ _ _ _ _ _ _ _ _ _ _ _ _ (c .before .before .before .before .before .before .before .before .before .before .before .before .before .before .before .before .before .before .loop .inv) (c .before .before .before .before .before .before .before .before .before .before .before .before .before .before .before .before .before .loop-test .taken) _ (whole-points (boardAt (board (entry (c .before .before .before .before .before .before .before .before .before .before .before .before .before .before .before .before .before .before .before .before))) (leapt (leap-at (c .before .before .before .before .before .before .before .before .before .before .before .before .before .before .before .before .before .before .before .before))) (turn (leap-at (c .before .before .before .before .before .before .before .before .before .before .before .before .before .before .before .before .before .before .before .before)) .before .ticks .clock + leap-at (c .before .before .before .before .before .before .before .before .before .before .before .before .before .before .before .before .before .before .before .before) .if2 .skipped) (turn (leap-at (c .before .before .before .before .before .before .before .before .before .before .before .before .before .before .before .before .before .before .before .before)) .before .ticks .held)) (ahead (leap-at (c .before .before .before .before .before .before .before .before .before .before .before .before .before .before .before .before .before .before .before .before)) .whole))
+    let v = turning-store _ _ _ _ _ _ _ _ _ _ _ _ _ (c .before .before .before .before .before .before .before .before .before .before .before .before .before .before .before .before .before .before .loop .inv) (c .before .before .before .before .before .before .before .before .before .before .before .before .before .before .before .before .before .loop-test .taken) _ (whole-points (boardAt (board (entry (c .before .before .before .before .before .before .before .before .before .before .before .before .before .before .before .before .before .before .before))) (leapt (leap-at (c .before .before .before .before .before .before .before .before .before .before .before .before .before .before .before .before .before .before .before))) (turn (leap-at (c .before .before .before .before .before .before .before .before .before .before .before .before .before .before .before .before .before .before .before)) .before .ticks .clock + leap-at (c .before .before .before .before .before .before .before .before .before .before .before .before .before .before .before .before .before .before .before) .if2 .skipped) (turn (leap-at (c .before .before .before .before .before .before .before .before .before .before .before .before .before .before .before .before .before .before .before)) .before .ticks .held)) (ahead (leap-at (c .before .before .before .before .before .before .before .before .before .before .before .before .before .before .before .before .before .before .before)) .whole))
     (c .before .before .before .before .before .before .before .before .before .before .before .before .before .before .before .leap .ensures)
-    (c .before .before .before .before .before .before .before .before .before .before .before .before .info-at .ensures ∙ ap (λ (l : ℕ). infoAt (key (trailingZeros 16 (c .before .before .before .before .before .before .before .before .before .before .before .before .before .before .before .before .before .before .loop .rest)) l) (keysOf (board (entry (c .before .before .before .before .before .before .before .before .before .before .before .before .before .before .before .before .before .before .before .before)) .points)) (infosOf (board (entry (c .before .before .before .before .before .before .before .before .before .before .before .before .before .before .before .before .before .before .before .before)) .points))) (c .before .before .before .before .before .before .before .before .before .before .before .before .before .before .arrival .ensures))
+    (c .before .before .before .before .before .before .before .before .before .before .before .before .info-at .ensures ∙ ap (λ (l : ℕ). infoAt (key (trailingZeros 16 (c .before .before .before .before .before .before .before .before .before .before .before .before .before .before .before .before .before .before .loop .rest)) l) (keysOf (board (entry (c .before .before .before .before .before .before .before .before .before .before .before .before .before .before .before .before .before .before .before)) .points)) (infosOf (board (entry (c .before .before .before .before .before .before .before .before .before .before .before .before .before .before .before .before .before .before .before)) .points))) (c .before .before .before .before .before .before .before .before .before .before .before .before .before .before .arrival .ensures))
     (c .before .before .before .before .before .before .before .before .before .before .step-member .ensures .0) (c .before .before .before .before .before .before .before .before .before .before .step-member .ensures .1)
     (c .before .before .before .note .ensures .0) (c .before .before .before .note .ensures .1 .0) (c .before .before .before .note .ensures .1 .1) (c .before .needs-more .ensures) in
-    let o = turning-over _ _ _ _ _ (c .before .before .before .before .before .before .before .before .before .before .before .before .before .before .before .before .before .before .before .before .before .before .before .before .before .before .ticks .inv .1) _ _ _ _ _ _ _ _ v in
-    full (c .before .before .before .before .before .before .before .before .before .before .before .before .before .before .before .before .before .before .before .before) (omega (arith, c .if5 .taken, v .steps .few-records)) (omega (arith, c .if5 .taken))
+    let o = over (c .before .before .before .before .before .before .before .before .before .before .before .before .before .before .before .before .before .before .before) _ (turning-over _ _ _ _ _ (same-word (c .before .before .before .before .before .before .before .before .before .before .before .before .before .before .before .before .before .before .before)) _ _ _ _ _ _ _ _ v) in
+    full (c .before .before .before .before .before .before .before .before .before .before .before .before .before .before .before .before .before .before .before) (omega (arith, c .if5 .taken, v .steps .few-records)) (omega (arith, c .if5 .taken))
 
 same-length-4 : tie.Need-same-length-4 Inv-loop μ-loop Inv-ticks μ-ticks
 same-length-4 c = c .before .before .before .before .before .before .before .before .before .before .before .before .ticks .inv .0 .long
@@ -348,7 +357,7 @@ same-length-4 c = c .before .before .before .before .before .before .before .bef
 returns-4 : tie.Need-returns-4 Inv-loop μ-loop Inv-ticks μ-ticks
 returns-4 c =
     let d = done (c .before) in
-    full (c .before .before .before .before .before .before) (omega (arith, c .if8 .taken, few (c .before))) (omega (arith, c .if8 .taken, d .count))
+    full (c .before .before .before .before .before) (omega (arith, c .if8 .taken, few (c .before))) (omega (arith, c .if8 .taken, d .count))
 
 pub run-spec : {M : Type 1} → statement M
 run-spec =
@@ -371,10 +380,10 @@ run-spec =
     add-taken
     ticks-less
     ticks-again
-    sub-room
-    leapt-requires-2
     add-clock-2
     add-taken-2
+    sub-room
+    leapt-requires-2
     loop-holds
     cast-i
     mul-s

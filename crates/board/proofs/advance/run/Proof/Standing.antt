@@ -7,7 +7,7 @@ use Rattle.board.specs.declared.call.Advanced.the-variants.{Done, LogFul
 use Rattle.board.proofs.tick.Bits.{Lowest}
 use Rattle.board.proofs.rules.Broken.{unbroken-of}
 use Rattle.board.proofs.quiet.Leaps.{unbroken-leapable, leap-tracks-word}
-use Rattle.board.proofs.advance.Turning.{Turning, turning-member, turning-leapt, turning-more, turning-still, Played}
+use Rattle.board.proofs.advance.Turning.{Begins, begins-before, begins-leapt, Turning, turning-member, turning-leapt, turning-more, turning-still, Played}
 use Rattle.board.proofs.advance.Judged.{fewest-same, Ticked, played-judged, played-alone}
 use Rattle.board.proofs.quiet.Bands.{leap-follow-word}
 use Rattle.board.proofs.quiet.Pairs.{Mastered, unbroken-mastered, unbroken-paired}
@@ -199,15 +199,30 @@ longest c e =
 -- ---- the walk
 
 abbrev pub leap-at : tie.Joined4 Inv-loop μ-loop Inv-ticks μ-ticks → tie.Joined2 Inv-loop μ-loop Inv-ticks μ-ticks
-leap-at c = c .before .before
+leap-at c = c .before .before .before
 
 abbrev pub entry : tie.Joined4 Inv-loop μ-loop Inv-ticks μ-ticks → tie.Start Inv-loop μ-loop Inv-ticks μ-ticks
 entry c = start (turn (leap-at c))
 
+-- the tracks that the pass begins with: where the records might not fit, they are leapt by then
+pub begins : (c : tie.Joined4 Inv-loop μ-loop Inv-ticks μ-ticks) →
+    Begins (entry c .args .present) (leap-at c .if2 .skipped) (turn (leap-at c) .before .ticks .tracks) (c .if4 .skipped) (c .if4 .tracks)
+begins c =
+    let j = leap-at c in
+    let k = turn j .before .ticks in
+    let l = k .inv .0 .tracks-long in
+    ⊎-elim (λ w. begins-leapt _ _ (k .tracks) l (w .2 ∙ w .1 .ensures ∙ leapt-is j) (w .4) (unbroken-leapable _ (whole′ j)))
+    (λ w. begins-before _ _ (k .tracks) l (w .1) (w .3) (unbroken-leapable _ (whole (turn j)))) (c .if4 .came)
+
+-- the word is of those that play then
+pub same-word : (c : tie.Joined4 Inv-loop μ-loop Inv-ticks μ-ticks) →
+    turn (leap-at c) .before .ticks .word ≡ playingWord (entry c .args .present) (c .if4 .tracks)
+same-word c = turn (leap-at c) .before .ticks .inv .1 ∙ sym (begins c .word)
+
 -- the tracks to go back to, if the records might not fit
 pub kept-back : (c : tie.Joined4 Inv-loop μ-loop Inv-ticks μ-ticks) → capacity (length (entry c .args .log .now)) - turn (leap-at c) .before .ticks .held < tickMost → c .if4 .back ≡ leapt (leap-at c)
 kept-back c h =
-    ⊎-elim (λ w. w .2 ∙ w .1 .ensures ∙ leapt-is (leap-at c)) (λ w. absurd (omega (arith, w .0 .left))) (c .if4 .came)
+    ⊎-elim (λ w. w .3 ∙ w .1 .ensures ∙ leapt-is (leap-at c)) (λ w. absurd (omega (arith, w .0 .left))) (c .if4 .came)
 
 -- the next member of the word
 pub member : (c : tie.In-loop Inv-loop μ-loop Inv-ticks μ-ticks) → Lowest (c .before .loop .rest)
@@ -225,24 +240,44 @@ tickAt c =
     let k = turn (leap-at c) .before .ticks in
     stageOf (board (entry c)) (k .log) (leapt (leap-at c)) (k .clock + leap-at c .if2 .skipped) (k .held)
 
+-- as many records are part of it as are part of the tick from the tracks that the pass leaves when it has leapt them
+pub over : (c : tie.Joined4 Inv-loop μ-loop Inv-ticks μ-ticks) (count : ℕ) →
+    let k = turn (leap-at c) .before .ticks in
+    let b = board (entry c) in
+    count ≤ length (stageOf b (k .log) (leapTracks (c .if4 .skipped) (b .present) (c .if4 .tracks)) (k .clock + leap-at c .if2 .skipped) (k .held) .records) →
+    count ≤ length (tickAt c .records)
+over c count =
+    let k = turn (leap-at c) .before .ticks in
+    let b = board (entry c) in
+    subst
+    (λ (us : List Track). count ≤ length (stageOf b (k .log) us (k .clock + leap-at c .if2 .skipped) (k .held) .records))
+    (begins c .leaps)
+
 abbrev pub tick : tie.Joined7 Inv-loop μ-loop Inv-ticks μ-ticks → Stage
-tick c = tickAt (c .before .before .before .before .before)
+tick c = tickAt (c .before .before .before .before)
 
 -- its steps and commands
 pub played : (c : tie.Joined6 Inv-loop μ-loop Inv-ticks μ-ticks) →
-    let k = c .before .before .before .before in
+    let k = c .before .before .before in
     let s = entry k .args in
     Played (parts (s .present) (s .keys .now) (s .infos .now) (s .n)) (leapt (leap-at k)) (turn (leap-at k) .before .ticks .clock + leap-at k .if2 .skipped)
     (c .if6 .tracks) (c .if6 .total) (c .if6 .stage) (c .if6 .word)
 played c =
     let k = c .before .before .loop in
-    let w = turn (leap-at (c .before .before .before .before)) .before .ticks .inv .1 in
+    let g = c .before .before .before in
+    let s = entry g .args in
+    let w = same-word g in
     let l = c .before .loop-test .left in
-    ⊎-elim
+    subst
+    (λ (us : List Track).
+    Played (parts (s .present) (s .keys .now) (s .infos .now) (s .n)) us (turn (leap-at g) .before .ticks .clock + leap-at g .if2 .skipped) (c .if6 .tracks)
+    (c .if6 .total) (c .if6 .stage) (c .if6 .word))
+    (begins g .leaps)
+    (⊎-elim
     (λ r.
     turning-more _ _ _ _ _ w _ _ _ _ _ _ _ _ (k .inv) l (r .6 ∙ r .3 .ensures .0) (r .9 ∙ r .3 .ensures .1 .0) (r .8 ∙ r .3 .ensures .1 .1 .0)
     (r .7 ∙ r .3 .ensures .1 .1 .1 ∙ ap (playingWord _) (sym (r .6))))
-    (λ r. turning-still _ _ _ _ _ w _ _ _ _ _ _ _ _ (k .inv) l (r .0 .left) (r .1) (r .4) (r .3) (r .2)) (c .if6 .came)
+    (λ r. turning-still _ _ _ _ _ w _ _ _ _ _ _ _ _ (k .inv) l (r .0 .left) (r .1) (r .4) (r .3) (r .2)) (c .if6 .came))
 
 -- its followers
 pub leads : (c : tie.Joined2 Inv-loop μ-loop Inv-ticks μ-ticks) →
@@ -250,31 +285,31 @@ pub leads : (c : tie.Joined2 Inv-loop μ-loop Inv-ticks μ-ticks) →
 leads c = let k = turn c .before .ticks in k .inv .4 ∙ sym (leap-follow-word (c .if2 .skipped) _ (k .tracks))
 
 pub done : (c : tie.Joined7 Inv-loop μ-loop Inv-ticks μ-ticks) →
-    let k = c .before .before .before .before .before in
+    let k = c .before .before .before .before in
     let s = entry k .args in
     Ticked (parts (s .present) (s .keys .now) (s .infos .now) (s .n)) (leapt (leap-at k)) (turn (leap-at k) .before .ticks .clock + leap-at k .if2 .skipped)
     (c .if7 .tracks) (c .if7 .total) (c .if7 .stage) (c .before .if6 .word)
 done c =
     let p = played (c .before) in
-    let e = leads (leap-at (c .before .before .before .before .before)) in
+    let e = leads (leap-at (c .before .before .before .before)) in
     ⊎-elim
     (λ r. played-judged _ _ _ _ _ _ _ p _ e (r .5 ∙ r .2 .ensures .0) (r .7 ∙ r .2 .ensures .1 .0) (r .6 ∙ r .2 .ensures .1 .1))
     (λ r. played-alone _ _ _ _ _ _ _ p _ e (r .0 .left) (r .1) (r .3) (r .2)) (c .if7 .came)
 
 pub few : (c : tie.Joined7 Inv-loop μ-loop Inv-ticks μ-ticks) → c .if7 .total ≤ tickMost
 few c =
-    let k = c .before .before .before .before .before in
+    let k = c .before .before .before .before in
     let b = board (entry k) in
     omega (arith, done c .count, tick-few (keysOf (b .points)) (infosOf (b .points)) (turn (leap-at k) .before .ticks .clock + leap-at k .if2 .skipped + 1) (b .present) (leapt (leap-at k)))
 
 -- the tick is taken: the log, and where the loop stands after it
 pub logged : (c : tie.After-slice-known2 Inv-loop μ-loop Inv-ticks μ-ticks) →
     let j = c .before .before .before .before .before .before .before in
-    let k = turn (leap-at (j .before .before .before .before .before)) .before .ticks in
+    let k = turn (leap-at (j .before .before .before .before)) .before .ticks in
     c .before .before .commit .last .0 ≡ writeAt (k .log) (k .held * recordWidth) (logBytes (tick j .records))
 logged c =
     let j = c .before .before .before .before .before .before .before in
-    let k = turn (leap-at (j .before .before .before .before .before)) .before .ticks in
+    let k = turn (leap-at (j .before .before .before .before)) .before .ticks in
     c .before .before .commit .ensures ∙ ap (writeAt (k .log) (k .held * recordWidth)) (done j .bytes)
 
 pub walked : (c : tie.After-slice-known2 Inv-loop μ-loop Inv-ticks μ-ticks) →
@@ -308,7 +343,7 @@ pub full : (c : tie.Joined4 Inv-loop μ-loop Inv-ticks μ-ticks) →
 full c h r =
     let j = leap-at c in
     let k = turn j .before .ticks in
-    let n = short (c .before) in
+    let n = short (c .before .before) in
     let e = j .before .smaller .ensures in
     subst
     (λ (ts : List Track).
