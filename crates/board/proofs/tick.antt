@@ -5,3 +5,4 @@ pub mod Commands
 pub mod Steps
 pub mod Found
 pub mod Bits
+pub mod Full

@@ -184,8 +184,12 @@ advancedSaid (advanced.Refused n) = refused n
 
 -- ---- the board's rules, for any log of n bytes
 
+-- the board with so many records held, and with so many more
+abbrev pub heldAt : ℕ → Board → Board
+heldAt n b = boardWith b (b .tracks) (b .present) (b .points) n
+
 abbrev pub grownBy : Board → ℕ → Board
-grownBy b k = boardWith b (b .tracks) (b .present) (b .points) (b .held + k)
+grownBy b k = heldAt (b .held + k) b
 
 -- the board after a tick, its records not yet counted
 abbrev pub ticked : Board → Board

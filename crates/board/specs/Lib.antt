@@ -6,10 +6,12 @@ pub mod Setup
 pub mod Query
 pub mod Mode
 pub mod Tick
+pub mod Full
 pub mod Stay
 pub mod Steady
 pub mod Quiet
 pub mod Advance
+pub mod Apart
 pub mod Apply
 pub mod Row
 pub mod Replay

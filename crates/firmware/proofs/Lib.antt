@@ -8,4 +8,5 @@ pub mod Lent
 pub mod LentAdvance
 pub mod LentMode
 pub mod LentLists
+pub mod LentTicks
 pub mod DoorLaws

@@ -24,7 +24,7 @@ use Rattle.board.specs.Setup.{boardWith, dropPoint, clearBoard}
 use Rattle.board.specs.Query.{clockOf, trackOf, pointIn, inRange, countIn}
 use Rattle.board.specs.Cut.{Did}
 use Rattle.board.specs.Replay.{World}
-use Rattle.board.specs.Call.{Reply, accepted, refused, done, logFull, clockEnded, clockIs, countIs, does, world, Gives, trackValues}
+use Rattle.board.specs.Call.{Reply, accepted, refused, done, logFull, clockEnded, clockIs, countIs, heldAt, does, world, Gives, trackValues}
 use Rattle.board.specs.Row.{callWidth, replyWidth, trackNumbers, numbersOf, rowsOf}
 use Rattle.board.specs.Lists.{Executed}
 use Rattle.board.proofs.lists.Runs.{ran}
@@ -45,10 +45,6 @@ ready n = after setUpA (fresh n)
 abbrev played : ℕ → List Call → World Board
 played n cs = after (play 0 ∷ cs) (ready n)
 
--- the board with so many records held
-abbrev pub heldAt : ℕ → Board → Board
-heldAt n b = boardWith b (b .tracks) (b .present) (b .points) n
-
 -- a board that breaks the clock's range
 abbrev pub broken : World Board
 broken = world (clockAt (clockEnd + 1) freshBoard) []
@@ -56,6 +52,10 @@ broken = world (clockAt (clockEnd + 1) freshBoard) []
 -- a fresh board with its clock at 999,999,999
 abbrev late : World Board
 late = world (lateBoard freshBoard) []
+
+-- card A played, with two records held that none of its ticks wrote
+abbrev holding : World Board
+holding = world (heldAt 2 (played 96 [] .board)) (replicate 96 0)
 
 -- the position of track 0
 abbrev pub position : Board → ℤ
@@ -192,6 +192,19 @@ traps =
     ∷ gives (advance 1) paired (done 1) commandedFirst
     ∷ []
 
+-- 02, 2.2: a tick that is not worked out apart from the log, by 1 on A's board with two records held
+abbrev pub ticksApart : List Claim
+ticksApart =
+    -- its record tells a clock that grows with the records held
+    gives (advance 1) holding (done 1) (world (heldAt 3 (played 96 (advance 1 ∷ []) .board)) (replicate 32 0 ++ set (take 16 logA) 0 3 ++ replicate 48 0))
+    -- it stands where the held ones begin
+    ∷ gives (advance 1) holding (done 1) (world (heldAt 3 (played 96 (advance 1 ∷ []) .board)) (take 16 logA ++ replicate 80 0))
+    -- the board after it is another than with no record held
+    ∷ gives (advance 1) holding (done 1) (world (heldAt 3 (played 96 (advance 2 ∷ []) .board)) (replicate 32 0 ++ take 16 logA ++ replicate 48 0))
+    -- it is held back although its record fits
+    ∷ gives (advance 1) holding (logFull 0) holding
+    ∷ []
+
 abbrev pub setUps : List Claim
 setUps =
     -- add track: one already present is 1
@@ -263,6 +276,7 @@ pub record Rejected : Type 0 where
   -- owing a waiting track the ticks it stood: the tick after its resume takes it elsewhere than home, or those it stands take it on
   pub ticks-owed : Unless (advance 1) (played 96 (advance 10 ∷ resume 0 ∷ [])) (done 1) (λ b. position b ≡ pos 2)
   pub ticks-walked : Unless (advance 6) (played 96 (advance 4 ∷ [])) (done 6) (λ b. position b ≡ pos 5)
+  pub ticks-apart-refuted : Refuted ticksApart
   pub set-ups-refuted : Refuted setUps
   -- any of start, end, loops, repeat, direction, action and jump accepted of a track that is absent
   pub absent-set : (c : Change) → Unsaid (call.SetUp (pos 1) c) (ready 0) accepted
@@ -312,6 +326,7 @@ rejected =
       traps-refuted = refute traps refl;
       ticks-owed = λ v n g. n (ap position (g .board-is));
       ticks-walked = λ v n g. n (ap position (g .board-is));
+      ticks-apart-refuted = refute ticksApart refl;
       set-ups-refuted = refute setUps refl;
       absent-set = λ c v g. unsaid accepted (refused 1) refl (g .answer-is);
       start-stays = λ v n g. n (ap position (g .board-is));

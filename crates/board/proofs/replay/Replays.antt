@@ -223,6 +223,15 @@ module _ (R : Rules) (K : Counts R) (M : Room R) where
           rw (ticks-on (r-halt R) (r-step R) n s e) (behind-then R K p (ih (behind-fits p)))
       go (some x) e ih = rw (ticks-off (r-halt R) (r-step R) n s x e) (behind-none R K s f)
 
+  -- a tick that is taken writes its records, behind those held
+  pub tick-written : (w : World Board) → w-halt R w ≡ none → written R w (w-step R w) ≡ flat R (tick (w .board) .records)
+  tick-written w e =
+      let b = w .board in
+      let rs = tick b .records in
+      rw (K .held-grown (tick b .board) (length rs), tick-held b)
+      (slice-sets (w .log) (flat R rs) (width * held b) (width * (held b + length rs)) (rw (mul-add width (held b) (length rs), flat-length R K rs))
+      (tick-fits (length (w .log)) b e))
+
   -- what a call writes, in the log and in the row
   record Wrote (s s′ : State Board Rec) : Type 0 where
     recs : List Rec
