@@ -49,6 +49,42 @@ impl Alike for Library {
     }
 }
 
+/// A board whose count of records held can be set at will, and that can be held against another, whole.
+pub trait Held: Begun + Clone {
+    fn held(&mut self) -> &mut u64;
+    fn equals(&self, other: &Self) -> bool;
+}
+
+impl Held for Model {
+    fn held(&mut self) -> &mut u64 {
+        &mut self.held
+    }
+
+    fn equals(&self, other: &Model) -> bool {
+        self == other
+    }
+}
+
+impl Held for Peer {
+    fn held(&mut self) -> &mut u64 {
+        &mut self.held
+    }
+
+    fn equals(&self, other: &Peer) -> bool {
+        self.picture() == other.picture()
+    }
+}
+
+impl Held for Library {
+    fn held(&mut self) -> &mut u64 {
+        &mut self.board.held
+    }
+
+    fn equals(&self, other: &Library) -> bool {
+        self == other
+    }
+}
+
 /// A board with its log.
 pub struct Bench<B> {
     pub board: B,

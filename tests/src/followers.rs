@@ -3,7 +3,7 @@
 use crate::bench::{Begun, Bench};
 use crate::call::Reply::{self, ClockEnd, Done, LogFull};
 use crate::call::{Call::*, Pairs};
-use crate::record::{BAND, MODE_CHANGE, POINT, RECORD, REFUSED_COMMAND};
+use crate::record::RECORD;
 use crate::track::{self, PAUSED, PLAYING};
 
 /// Tracks 0 and 1, both 0 to 10; 1 follows 0 with thresholds 3 and 5, events 31 and 51.
@@ -227,23 +227,4 @@ pub fn unequal_spans<B: Begun>() {
         [[61, 5, 6], [511, 6, 51]].map(|[n, event, passes]| [1000 * k + n, 1, 4, event, 0, 0, 100 * k + passes])
     };
     assert!(bench.lines().into_iter().eq((0..2048).flat_map(round)));
-}
-
-/// A tick of 64 records: each of sixteen tracks writes one of each kind.
-pub fn sixty_four<B: Begun>() {
-    for (bytes, reply) in [(64 * RECORD - 1, LogFull(0)), (64 * RECORD, Done(1))] {
-        let mut bench = Bench::<B>::new(bytes);
-        (0..16).for_each(|t| bench.accept(&[Track(t, 0, 100), Action(t, 1, 3, 9)]));
-        for t in 0..16 {
-            let place = if t % 2 == 0 { 50 } else { 0 };
-            bench.accept(&[Jump(t, place), Point(t, place, 5, 1, 1, t)]);
-            bench.accept(&[Master(t, t ^ 1, Pairs::new(&[[1, 7]]))]);
-        }
-        (0..16).for_each(|t| bench.accept(&[Play(t)]));
-        assert_eq!(bench.call(Advance(1)), reply);
-        let lines = bench.lines();
-        let kinds = [[POINT, MODE_CHANGE].repeat(16), [REFUSED_COMMAND].repeat(16), [BAND].repeat(16)].concat();
-        let due = if reply == Done(1) { &kinds[..] } else { &[] };
-        assert!(lines.iter().map(|line| line[2] as u8).eq(due.iter().copied()));
-    }
 }

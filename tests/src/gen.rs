@@ -36,6 +36,10 @@ impl Rng {
     pub fn pick<T: Copy>(&mut self, from: &[T]) -> T {
         from[self.between(0, from.len() as i64 - 1) as usize]
     }
+
+    pub fn bytes(&mut self, length: i64) -> Vec<u8> {
+        (0..length).map(|_| self.bits() as u8).collect()
+    }
 }
 
 /// A list for a board that is fresh but for `clock` idle ticks, and for a log of any content.
@@ -67,7 +71,7 @@ pub fn case(profile: Profile, seed: u64) -> Case {
         Profile::SmallLog => rng.between(5, 14) * 16 + rng.between(0, 15),
         _ => rng.between(20, 400) * 16 + rng.between(0, 15),
     };
-    let log: Vec<u8> = (0..length).map(|_| rng.bits() as u8).collect();
+    let log = rng.bytes(length);
     let board = Model { clock, ..Model::fresh() };
     let calls = made(rng, plan(profile), board, log.clone());
     Case { clock, log, calls }

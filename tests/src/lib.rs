@@ -15,5 +15,6 @@ pub mod plot;
 pub mod record;
 pub mod refused;
 pub mod script;
+pub mod ticks;
 pub mod track;
 pub mod traps;

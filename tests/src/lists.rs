@@ -59,7 +59,8 @@ pub enum Seen {
     Run { sum: i64, taken: i64, reason: Reason },
 }
 
-fn taken(reply: Reply) -> (i64, Reason) {
+/// The ticks that an advance took, and what stopped it.
+pub fn taken(reply: Reply) -> (i64, Reason) {
     match reply {
         Reply::Done(taken) => (taken.into(), Reason::Nothing),
         Reply::LogFull(taken) => (taken.into(), Reason::LogFull),

@@ -1,7 +1,7 @@
 //! What 2.1 refuses, for any board: master calls in the order of their refusals, and lent boards whose follower breaks a
 //! rule.
 
-use crate::bench::{Begun, Bench};
+use crate::bench::{Begun, Bench, Held};
 use crate::call::{CALL_WIDTH, Call, Call::*, Pairs, Reply, Reply::Accepted, Reply::Refused};
 use crate::followers::{pair, shown};
 use crate::library::Library;
@@ -220,10 +220,9 @@ pub const STANDING: [Led; 5] = [
 ];
 
 /// A board whose clock and follower can be set at will.
-pub trait Lent: Begun + Clone {
+pub trait Lent: Held {
     /// Track 1 and the clock, as far as the board's numbers can hold that.
     fn lend(&mut self, led: &Led) -> bool;
-    fn equals(&self, other: &Self) -> bool;
 }
 
 impl Lent for Model {
@@ -233,10 +232,6 @@ impl Lent for Model {
         self.tracks[1] = Some(crate::track::Track { master, band, thresholds, events, ..track });
         self.clock = clock;
         true
-    }
-
-    fn equals(&self, other: &Model) -> bool {
-        self == other
     }
 }
 
@@ -249,10 +244,6 @@ impl Lent for Peer {
         self.clock = led.clock as u32;
         led.events.iter().all(|&event| event < 256)
     }
-
-    fn equals(&self, other: &Peer) -> bool {
-        self.picture() == other.picture()
-    }
 }
 
 impl Lent for Library {
@@ -262,10 +253,6 @@ impl Lent for Library {
         (track.thresholds, track.events) = (led.thresholds.map(|n| n as u32), led.events.map(|n| n as u32));
         self.board.clock = led.clock as u32;
         true
-    }
-
-    fn equals(&self, other: &Library) -> bool {
-        self == other
     }
 }
 

@@ -19,7 +19,7 @@ macro_rules! on_both {
 
 on_both! {
     followers: exceeded idle_board follower_moves mode_calls_leave_it behind_commands commands_leave_it turning held_back
-        rings setting unequal_spans sixty_four;
+        rings setting unequal_spans;
     refused: in_order of_any_length by_rows lent_boards;
 }
 

@@ -2,7 +2,7 @@
 //! GRIDSTEP_LISTS is the number of lists over all profiles.
 
 use gridstep_tests::against;
-use gridstep_tests::bench::Begun;
+use gridstep_tests::bench::{Begun, FILL};
 use gridstep_tests::call::{Board, CALL_WIDTH, Call, Call::Advance, REPLY_WIDTH, Reply};
 use gridstep_tests::cards;
 use gridstep_tests::followers;
@@ -12,6 +12,7 @@ use gridstep_tests::lists::{Tally, merged, observed, written};
 use gridstep_tests::model::Model;
 use gridstep_tests::record::{BAND, REFUSED_COMMAND};
 use gridstep_tests::refused;
+use gridstep_tests::ticks;
 use gridstep_tests::traps;
 
 macro_rules! on_library {
@@ -23,7 +24,8 @@ on_library! {
     traps: order traps leaps_the_clock;
     against: other_logs long_leaps;
     followers: exceeded idle_board follower_moves mode_calls_leave_it behind_commands commands_leave_it turning held_back
-        rings setting in_step unequal_spans sixty_four;
+        rings setting in_step unequal_spans;
+    ticks: sixty_four alike stretches narrow_logs;
     refused: in_order of_any_length by_rows lent_boards;
 }
 
@@ -200,6 +202,17 @@ fn every_small_log() {
         }
     }
     println!("small logs: {compared:?}");
+}
+
+/// The tick of 64 records lent, by the door, in an encoded list and cut anew: taken where all fit, else held back.
+#[test]
+fn sixty_four_in_lists() {
+    for (bytes, of_each_kind) in [(ticks::FULL, 16), (ticks::FULL - 1, 0)] {
+        let calls = [&ticks::set_up()[..], &[Advance(1), Advance(4)]].concat();
+        let mut compared = Compared::default();
+        compared.list(&format!("log of {bytes}"), &Case { clock: 0, log: vec![FILL; bytes], calls }, SEED);
+        assert_eq!(compared.tally.records[1..], [of_each_kind; 4]);
+    }
 }
 
 /// Master rows as the library reads them: a negative number of pairs, more than a row has, pairs past the number.

@@ -79,13 +79,7 @@ unsafe extern "C" {
         log: *mut u8,
         length: usize,
     ) -> Replied;
-    pub fn gridstep_master(
-        board: Board,
-        track: i64,
-        master: i64,
-        pairs: *const i64,
-        pairs_length: usize,
-    ) -> Replied;
+    pub fn gridstep_master(board: Board, track: i64, master: i64, pairs: *const i64, pairs_length: usize) -> Replied;
     pub fn gridstep_run(
         calls: *const i64,
         calls_length: usize,
