@@ -1,15 +1,17 @@
 //! A board against the model where lists on one log do not reach: logs of other lengths, long leaps.
 
 use crate::bench::{Alike, Begun};
-use crate::call::{Board, Call, Call::*, Reply::Refused};
+use crate::call::{Board, Call, Call::*, Reply, Reply::Refused};
 use crate::gen::{PROFILES, Rng, case};
 use crate::model::Model;
 
 /// One call on both: the same answer, board and log bytes.
-pub fn agree<B: Alike>(board: &mut B, model: &mut Model, call: Call, log: &[u8]) {
+pub fn agree<B: Alike>(board: &mut B, model: &mut Model, call: Call, log: &[u8]) -> Reply {
     let (mut board_log, mut log) = (log.to_vec(), log.to_vec());
-    assert_eq!(board.apply(call, &mut board_log), model.apply(call, &mut log), "{call:?}");
-    assert!(board.like(model) && board_log == log, "{call:?}");
+    let reply = model.apply(call, &mut log);
+    assert_eq!(board.apply(call, &mut board_log), reply, "{call:?}, a log of {}: {model:?}", log.len());
+    assert!(board.like(model) && board_log == log, "{call:?}, a log of {}: {model:?}", log.len());
+    reply
 }
 
 /// Each call is lent some part of the log, so that 7 comes.

@@ -1,13 +1,14 @@
 //! 02's ticks (2.2), for any board: what a taken tick writes, and the board after it but for held, are the same for
 //! every log and count held; its records are at most 64, and one board writes so many.
 
+use crate::against::agree;
 use crate::bench::{Alike, Bench, FILL, Held};
 use crate::call::Reply::{self, ClockEnd, Done, LogFull, Refused};
-use crate::call::{Board, Call, Call::*, Pairs, refusal};
+use crate::call::{Call, Call::*, Pairs, refusal};
 use crate::followers::shown;
 use crate::gen::{Case, PROFILES, Rng, case};
 use crate::lists::taken;
-use crate::model::{CLOCK_END, Model, TRACKS};
+use crate::model::{self, CLOCK_END, Model, TRACKS};
 use crate::record::{RECORD, capacity};
 use crate::track::{self, PLAYING, WAITING};
 use std::iter;
@@ -54,21 +55,51 @@ fn lines() -> Vec<[i64; 7]> {
     steps.chain((0..=LAST).rev().map(command)).chain(bands).collect()
 }
 
+/// Track t as these calls leave it: every field of the board of 64 records (`fullBoard` of board/specs/Full).
+fn drawn(t: i64) -> track::Track {
+    let mut actions = [[0; 4]; 4];
+    actions[PLAYING as usize][WAITING as usize] = 20 + t;
+    track::Track {
+        min: 0,
+        max: END,
+        start: 0,
+        end: END,
+        position: place(t),
+        direction: 0,
+        repeat: 1,
+        loops: 1,
+        passes: 0,
+        due: 1,
+        mode: PLAYING,
+        actions,
+        master: t ^ 1,
+        band: 0,
+        thresholds: [84, 99, 0, 0],
+        events: [80 + t, 120 + t, 0, 0],
+    }
+}
+
 /// That board before its first tick, with a log of so many bytes.
 fn begun<B: Held>(bytes: usize) -> Bench<B> {
     let mut bench = Bench::new(bytes);
     bench.accept(&set_up());
+    assert_eq!(bench.clock_and_held(), (0, 0));
+    for t in 0..=LAST {
+        assert_eq!(shown(&mut bench, t), drawn(t));
+        let point = model::Point { event: 40 + t, wait: 1, command: 1, target: LAST - t };
+        assert_eq!(bench.call(ShowPoint(t, place(t))), Reply::Point(t, place(t), point));
+        assert_eq!(bench.call(Count(t, 0, END)), Reply::Count(1));
+    }
     bench
 }
 
 /// The same after so many ticks: all tracks wait in the first band, and only the first tick has written.
 fn waiting<B: Held>(ticks: u32) -> Bench<B> {
     let mut bench = begun(FULL);
-    let before: Vec<track::Track> = (0..=LAST).map(|t| shown(&mut bench, t)).collect();
     assert_eq!(bench.call(Advance(ticks.into())), Done(ticks));
     assert_eq!((bench.clock_and_held(), bench.lines()), ((ticks, MOST as u64), lines()));
-    for (t, track) in (0..=LAST).zip(before) {
-        let after = track::Track { mode: WAITING, due: 0, passes: passes(t), band: 1, ..track };
+    for t in 0..=LAST {
+        let after = track::Track { mode: WAITING, due: 0, passes: passes(t), band: 1, ..drawn(t) };
         assert_eq!(shown(&mut bench, t), after);
     }
     bench
@@ -185,7 +216,7 @@ fn log_of(held: i64, more: i64, rng: &mut Rng) -> Vec<u8> {
 }
 
 /// Counts held, and logs for each by the bytes of a tick's records: room for just these, with a tail, a byte less, for
-/// fewer records than a tick may have, for its most, more, any fewer bytes, and less than what is held.
+/// fewer records than a tick may have, for its most, more, any bytes up to them, and less than what is held.
 fn lendings(bytes: i64, rng: &mut Rng) -> Vec<(u64, Vec<u8>)> {
     let (record, full) = (RECORD as i64, FULL as i64);
     let mut pairs = vec![(u64::MAX, rng.bytes(full))];
@@ -259,16 +290,12 @@ pub fn stretches<B: Held>() {
 /// Logs with room for fewer records than a tick may have, over many ticks: a board against the model.
 pub fn narrow_logs<B: Held + Alike>() {
     let mut came = Came::default();
-    for ((place, board, mut rng), (_, model, _)) in boards::<B>().zip(boards::<Model>()) {
+    for ((_, board, mut rng), (_, model, _)) in boards::<B>().zip(boards::<Model>()) {
         for held in counts(&mut rng) {
             let (mut board, mut model) = (holding(&board, held as u64), holding(&model, held as u64));
             let (ticks, more) = (rng.between(1, 200), rng.between(-(RECORD as i64), FULL as i64 - 1));
-            let mut log = log_of(held, more, &mut rng);
-            let mut board_log = log.clone();
-            let reply = model.advance(ticks, &mut log);
-            let lent = || format!("{place}: {held} held, a log of {}, {ticks} ticks", log.len());
-            assert_eq!(board.advance(ticks, &mut board_log), reply, "{}", lent());
-            assert!(board.like(&model) && board_log == log, "{}", lent());
+            let log = log_of(held, more, &mut rng);
+            let reply = agree(&mut board, &mut model, Advance(ticks), &log);
             came.note(reply, (model.held - held as u64) as usize);
         }
     }

@@ -140,7 +140,9 @@ fn altered_boards_agree() {
         assert_eq!(peer.unbroken(), ascend && model.unbroken());
         *if peer.unbroken() { &mut whole } else { &mut broken } += 1;
         if ascend {
-            each_call().into_iter().for_each(|call| agree(&mut peer.clone(), &mut model.clone(), call, &log));
+            for call in each_call() {
+                agree(&mut peer.clone(), &mut model.clone(), call, &log);
+            }
         }
     }
     println!("{whole} whole, {broken} broken");

@@ -5,4 +5,4 @@ pub mod Advancing
 pub mod Walked
 pub mod Leavings
 pub mod Cost
-pub mod Apart
+pub mod SameTick

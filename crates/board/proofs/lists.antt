@@ -11,3 +11,4 @@ pub mod Rejected
 pub mod FollowerCards
 pub mod RejectedFollowers
 pub mod Answers
+pub mod FullCalls

@@ -1,6 +1,6 @@
 -- One board whose next tick writes 64 records (02, 2.2): each of sixteen tracks reaches its point and waits there, each point's command is
 -- refused, and each track has drifted from its master.
-use Prim.Native.Nat.{ℕ, _+_, _-_, _*_, _%_}
+use Prim.Native.Nat.{ℕ, _+_, _-_, _*_, _%_, _^_}
 use mathlib.Core.List.{List, [], _∷_, _++_, map}
 use mathlib.Core.Bool.{cond}
 use lib.Dec.{eqb}
@@ -23,10 +23,10 @@ use Rattle.board.specs.Tick.{members, recordOf}
 
 -- the word of all sixteen tracks, and their numbers
 abbrev pub allPresent : ℕ
-allPresent = 65535
+allPresent = 2 ^ trackCount - 1
 
-abbrev pub numbers : List ℕ
-numbers = members allPresent
+abbrev pub allTracks : List ℕ
+allTracks = members allPresent
 
 -- what an even and an odd number have
 abbrev pub byPair : {A : Type 0} → ℕ → A → A → A
@@ -52,20 +52,20 @@ fullTrack i =
     let led = following acting (partner i) (84 ∷ 99 ∷ 0 ∷ 0 ∷ []) ((80 + i) ∷ (120 + i) ∷ 0 ∷ 0 ∷ []) in
     moved led PLAYING (placeOf i .0) 0 DUE
 
--- the track whose step, in ascending order, is as far from the last as that of i is from the first
+-- its number from the other end: 15 for 0, 14 for 1, and so on
 abbrev pub opposite : ℕ → ℕ
 opposite i = trackCount - 1 - i
 
--- its point, where it stands: a wait flag, and the command play for the opposite track
+-- its point, where it stands: a wait flag, and the command play for the opposite track, so that targets descend
 unfoldable pub fullPoint : ℕ → Point
 fullPoint i = record { track = i; position = placeOf i; event = 40 + i; wait = 1; command = PLAY; target = opposite i }
 
--- a row of numbers, one of each point, with a place for every other
+-- a row of numbers: one of each point, then 0 in the places of points that are not there
 unfoldable pub fullRow : (Point → ℕ) → List ℕ
-fullRow f = map (λ i. f (fullPoint i)) numbers ++ replicate (pointMost - trackCount) 0
+fullRow f = map (λ i. f (fullPoint i)) allTracks ++ replicate (pointMost - trackCount) 0
 
 unfoldable pub fullBoard : Board
-fullBoard = boardOf (map fullTrack numbers) allPresent (fullRow keyOf) (fullRow infoOf) trackCount 0 0
+fullBoard = boardOf (map fullTrack allTracks) allPresent (fullRow keyOf) (fullRow infoOf) trackCount 0 0
 
 -- ---- its records
 

@@ -11,7 +11,7 @@ pub mod Stay
 pub mod Steady
 pub mod Quiet
 pub mod Advance
-pub mod Apart
+pub mod SameTick
 pub mod Apply
 pub mod Row
 pub mod Replay

@@ -40,7 +40,7 @@ pub struct Left {
 }
 
 // So many ticks of an unbroken board, given by its parts, unless the clock or the log ends them. Each turn leaps the quiet ticks
-// ahead and works out the one behind them in one pass over the playing tracks: their steps, then the commands of the points reached,
+// ahead and works out the one behind them: the steps in one pass over the playing tracks, then the commands of the points reached,
 // then the bands of the followers. Its records are staged apart from the log, and the tick is kept if they fit. After a tick with
 // records the next is walked without looking for a leap.
 fn run<'a>(
@@ -94,12 +94,15 @@ fn run<'a>(
         clock += skipped;
         taken += skipped;
         let room = slots - held;
-        // Where the records might not fit, the tracks are leapt before the pass, to have them to go back to, and not in it.
+        // The log may be too short for this tick: `back` gets the tracks as they are before it. So they are leapt now, if they are to be
+        // leapt at all, and the pass leaps nothing.
         if room < Staged::MOST {
-            let moved = leapt(tracks, word, Ticks(skipped));
-            tracks = moved;
-            back = moved;
-            skipped = 0;
+            if 0 < skipped {
+                let moved = leapt(tracks, word, Ticks(skipped));
+                tracks = moved;
+                skipped = 0;
+            }
+            back = tracks;
         }
         let mut rest = word;
         let mut left = u16::count_ones(word);

@@ -1,4 +1,4 @@
-// The third pass of a tick: each follower's band, judged after the tick's commands.
+// The third part of a tick: each follower's band, judged after the tick's commands.
 use crate::Board;
 use crate::log::Record;
 use crate::log::put_record;

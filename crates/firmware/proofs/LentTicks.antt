@@ -6,8 +6,8 @@ use lib.IntN.{pos}
 use Rattle.board.specs.declared.Board.{Board}
 use Rattle.board.specs.declared.call.Call.the-variants as call
 use Rattle.board.specs.Call.{Reply, done, heldAt, does, world, Gives}
-use Rattle.board.specs.Apart.{SameTick}
-use Rattle.board.proofs.advance.Apart.{gives-alike}
+use Rattle.board.specs.SameTick.{SameTick}
+use Rattle.board.proofs.advance.SameTick.{gives-alike}
 use Rattle.firmware.specs.declared.value.Ending.{Ending}
 use Rattle.firmware.specs.Numbers.{endingSaid}
 use Rattle.firmware.proofs.Lent.{promised}

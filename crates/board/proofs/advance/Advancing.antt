@@ -103,7 +103,7 @@ module _ (b : Board) (log : List ℕ) (ts : List Track) (clock held : ℕ) where
   unfolding haltOf
   halt-ends h = simp (le-leb clockEnd clock h)
 
-  halt-fills : clock < clockEnd → capacity (length log) < held + length (stageOf .records) → halt here ≡ some fills
+  pub halt-fills : clock < clockEnd → capacity (length log) < held + length (stageOf .records) → halt here ≡ some fills
   unfolding haltOf
   halt-fills h l = simp (lt-leb clockEnd clock h, lt-leb (held + length (stageOf .records)) (capacity (length log)) l)
 
@@ -322,7 +322,7 @@ module _ (b : Board) (log : List ℕ) (count : ℤ) where
   advance-short u h = barred-gives 7 (unfold barOf in simp (u, lt-leb (b .held) (capacity (length log)) h))
 
   module _ (u : unbrokenTest b ≡ true) (h : b .held ≤ capacity (length log)) where
-    open-bar : barOf (length log) b ≡ none
+    pub open-bar : barOf (length log) b ≡ none
     unfolding barOf
     open-bar = simp (u, le-leb (b .held) (capacity (length log)) h)
 

@@ -1,4 +1,4 @@
--- The third pass in the tick loop, and the tick that it completes.
+-- The third part in the tick loop, and the tick that it completes.
 use Prim.Native.Nat.{ℕ, _+_, _*_, _≤_}
 use mathlib.Core.Path.{_≡_, sym, _∙_, ap, subst}
 use mathlib.Core.List.{List, [], _++_}

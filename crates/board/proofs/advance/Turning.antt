@@ -144,17 +144,18 @@ needs-more-not before d mode = go before (eqb (commandOf d) 0) (eqb mode PLAYING
 
 -- ---- where the pass begins
 
--- `skipped` ticks on from the tracks `before` is `left` ticks on from the tracks `ts`, and the same of these tracks play
-pub record Begins (present skipped : ℕ) (before : List Track) (left : ℕ) (ts : List Track) : Type 0 where
-  pub leaps : leapTracks left present ts ≡ leapTracks skipped present before
-  pub few : left ≤ skipped
+-- The pass begins with the tracks ts and leaps the ticks unleapt: that comes to as many as skipped on from the tracks before. The same
+-- tracks play.
+pub record Begins (present skipped : ℕ) (before : List Track) (unleapt : ℕ) (ts : List Track) : Type 0 where
+  pub leaps : leapTracks unleapt present ts ≡ leapTracks skipped present before
+  pub few : unleapt ≤ skipped
   pub word : playingWord present ts ≡ playingWord present before
   pub long : length ts ≡ trackCount
   pub leapable : Leapable ts (members (playingWord present ts))
 
-module _ (present skipped : ℕ) (before : List Track) (l : length before ≡ trackCount) {left : ℕ} {ts : List Track} where
-  -- none of them is leapt before the pass
-  pub begins-before : ts ≡ before → left ≡ skipped → Leapable before (members (playingWord present before)) → Begins present skipped before left ts
+module _ (present skipped : ℕ) (before : List Track) (l : length before ≡ trackCount) {unleapt : ℕ} {ts : List Track} where
+  -- no tick is leapt before the pass
+  pub begins-before : ts ≡ before → unleapt ≡ skipped → Leapable before (members (playingWord present before)) → Begins present skipped before unleapt ts
   begins-before et el a =
       record {
         leaps = ap₂ (λ (k : ℕ) (us : List Track). leapTracks k present us) el et;
@@ -164,9 +165,9 @@ module _ (present skipped : ℕ) (before : List Track) (l : length before ≡ tr
         leapable = subst (λ (us : List Track). Leapable us (members (playingWord present us))) (sym et) a;
       }
 
-  -- all of them are
-  pub begins-leapt : ts ≡ leapTracks skipped present before → left ≡ 0 →
-      Leapable (leapTracks skipped present before) (members (playingWord present (leapTracks skipped present before))) → Begins present skipped before left ts
+  -- all of them are, and none in it
+  pub begins-leapt : ts ≡ leapTracks skipped present before → unleapt ≡ 0 →
+      Leapable (leapTracks skipped present before) (members (playingWord present (leapTracks skipped present before))) → Begins present skipped before unleapt ts
   begins-leapt et el a =
       let after = leapTracks skipped present before in
       let l′ : length after ≡ trackCount = leap-tracks-long skipped present before ∙ l in

@@ -241,7 +241,7 @@ module _ (ks ds : List ℕ) (clock present : ℕ) (ts : List Track) (l : length 
   before : length (plays ts) ≡ playCount present ts
   before = members-playCount present ts l
 
-  -- the third pass changes no mode
+  -- the third part changes no mode
   behind : length (plays (tick .tracks)) ≡ playCount present (played .tracks)
   unfolding tickFrom
   behind =

@@ -1,4 +1,4 @@
--- The third pass of a tick: what it writes, what it leaves alone, and how many bands are held after it.
+-- The third part of a tick: what it writes, what it leaves alone, and how many bands are held after it.
 use mathlib.Core.Path.{_≡_, refl, sym, ap, subst, _∙_}
 use mathlib.Core.Bool.{Bool, true, false, cond, not, _||_}
 use mathlib.Core.List.{List, [], _∷_, _++_, append-nil, append-assoc}
@@ -193,7 +193,7 @@ bands-same present (t ∷ ts) (u ∷ us) l h =
     λ j. b j + r j
 
 module _ (clock present : ℕ) (is : List ℕ) (s : Stage) where
-  -- the same tracks play after the third pass
+  -- the same tracks play after the third part
   pub follow-playing : playingWord present (followAll clock is s .tracks) ≡ playingWord present (s .tracks)
   follow-playing =
       playing-same present (s .tracks) (followAll clock is s .tracks) (follow-long clock is s)

@@ -5,10 +5,8 @@ use mathlib.Core.Path.{_≡_, refl, sym, ap, _∙_}
 use mathlib.Core.Bool.{Bool, true, false, cond, not, _&&_}
 use mathlib.Core.List.{List, [], _∷_, _++_}
 use borrow.Author.Tests.{eq-eqb, not-true}
-use lib.Dec.{eqb}
 use lib.IntN.{ℤ, pos}
 use lib.ListN.{replicate, take, set}
-use Rattle.track.specs.declared.Track.{Track}
 use Rattle.track.specs.declared.setup.Change.{Change}
 use Rattle.track.proofs.Tests.{both}
 use Rattle.track.specs.Rule.{clockEnd, PAUSED, entered}
@@ -18,16 +16,16 @@ use Rattle.board.specs.declared.call.Call.{Call}
 use Rattle.board.specs.declared.call.Call.the-variants as call
 use Rattle.board.specs.Log.{kindTest, writeAt, logBytes, RecordValues, LogReply, packed, recordIs, unpackOf, packAnswer, packBytes}
 use Rattle.board.specs.Log as log
-use Rattle.board.specs.Points.{keysOf, infosOf, removeAt, removeRow, droppedFrom, countOf}
+use Rattle.board.specs.Points.{removeAt, removeRow, droppedFrom, countOf}
 use Rattle.board.specs.Board.{trackAt, freshBoard}
 use Rattle.board.specs.Setup.{boardWith, dropPoint, clearBoard}
 use Rattle.board.specs.Query.{clockOf, trackOf, pointIn, inRange, countIn}
 use Rattle.board.specs.Cut.{Did}
 use Rattle.board.specs.Replay.{World}
-use Rattle.board.specs.Call.{Reply, accepted, refused, done, logFull, clockEnded, clockIs, countIs, heldAt, does, world, Gives, trackValues}
-use Rattle.board.specs.Row.{callWidth, replyWidth, trackNumbers, numbersOf, rowsOf}
+use Rattle.board.specs.Call.{Reply, accepted, refused, done, logFull, clockEnded, clockIs, countIs, heldAt, does, world, Gives}
+use Rattle.board.specs.Row.{callWidth, replyWidth, numbersOf, rowsOf}
 use Rattle.board.specs.Lists.{Executed}
-use Rattle.board.proofs.lists.Runs.{ran}
+use Rattle.board.proofs.lists.Runs.{ran, allOf, alike}
 use Rattle.board.proofs.lists.Cards.{track, start, loops, action, jump, point, play, pause, resume, stop, drop, advance}
 use Rattle.board.proofs.lists.Cards.{fresh, printed, setUpA, logA, clockAt, lateBoard, callsPaired}
 
@@ -110,23 +108,6 @@ Unless c w a P = (v : World Board) → (P (v .board) → ⊥) → Wrong (gives c
 
 -- ---- a wrong answer is told by computing
 
--- every number of an answer, a board and a log
-abbrev numbers : List Track → List ℕ
-numbers [] = []
-numbers (t ∷ ts) = trackNumbers (trackValues t) ++ numbers ts
-
-abbrev allOf : Reply → Board → List ℕ → List ℕ
-allOf a b log =
-    numbersOf a
-    ++ (b .clock .0 ∷ b .held ∷ b .present ∷ b .points .count ∷ log) ++ keysOf (b .points) ++ infosOf (b .points) ++ numbers (b .tracks)
-
--- whether two rows of numbers are the same
-unfoldable pub alike : List ℕ → List ℕ → Bool
-alike [] [] = true
-alike [] (y ∷ ys) = false
-alike (x ∷ xs) [] = false
-alike (x ∷ xs) (y ∷ ys) = eqb x y && alike xs ys
-
 itself : (xs : List ℕ) → alike xs xs ≡ true
 unfolding alike
 itself [] = refl
@@ -192,9 +173,9 @@ traps =
     ∷ gives (advance 1) paired (done 1) commandedFirst
     ∷ []
 
--- 02, 2.2: a tick that is not worked out apart from the log, by 1 on A's board with two records held
-abbrev pub ticksApart : List Claim
-ticksApart =
+-- 02, 2.2: a tick that is another with two records held; an advance by 1 on card A's board
+abbrev pub ticksByLog : List Claim
+ticksByLog =
     -- its record tells a clock that grows with the records held
     gives (advance 1) holding (done 1) (world (heldAt 3 (played 96 (advance 1 ∷ []) .board)) (replicate 32 0 ++ set (take 16 logA) 0 3 ++ replicate 48 0))
     -- it stands where the held ones begin
@@ -276,7 +257,7 @@ pub record Rejected : Type 0 where
   -- owing a waiting track the ticks it stood: the tick after its resume takes it elsewhere than home, or those it stands take it on
   pub ticks-owed : Unless (advance 1) (played 96 (advance 10 ∷ resume 0 ∷ [])) (done 1) (λ b. position b ≡ pos 2)
   pub ticks-walked : Unless (advance 6) (played 96 (advance 4 ∷ [])) (done 6) (λ b. position b ≡ pos 5)
-  pub ticks-apart-refuted : Refuted ticksApart
+  pub ticks-by-log-refuted : Refuted ticksByLog
   pub set-ups-refuted : Refuted setUps
   -- any of start, end, loops, repeat, direction, action and jump accepted of a track that is absent
   pub absent-set : (c : Change) → Unsaid (call.SetUp (pos 1) c) (ready 0) accepted
@@ -326,7 +307,7 @@ rejected =
       traps-refuted = refute traps refl;
       ticks-owed = λ v n g. n (ap position (g .board-is));
       ticks-walked = λ v n g. n (ap position (g .board-is));
-      ticks-apart-refuted = refute ticksApart refl;
+      ticks-by-log-refuted = refute ticksByLog refl;
       set-ups-refuted = refute setUps refl;
       absent-set = λ c v g. unsaid accepted (refused 1) refl (g .answer-is);
       start-stays = λ v n g. n (ap position (g .board-is));

@@ -14,10 +14,10 @@ use Rattle.board.specs.Board.{trackAt}
 use Rattle.board.specs.Setup.{boardWith}
 use Rattle.board.specs.Replay.{World}
 use Rattle.board.specs.Call.{accepted, refused, done, logFull, heldAt, world}
-use Rattle.board.proofs.lists.Runs.{ran}
+use Rattle.board.proofs.lists.Runs.{ran, alike}
 use Rattle.board.proofs.lists.Cards.{track, jump, point, play, pause, resume, stop, advance, fresh, clockAt}
 use Rattle.board.proofs.lists.FollowerCards.{master, one, two, bothTracks, pair, runsAhead, turnsBack, bytes}
-use Rattle.board.proofs.lists.Rejected.{after, broken, position, Claim, gives, Refuted, Unsaid, Unless, alike, agrees, noneAgrees, refute, unsaid}
+use Rattle.board.proofs.lists.Rejected.{after, broken, position, Claim, gives, Refuted, Unsaid, Unless, agrees, noneAgrees, refute, unsaid}
 
 -- ---- worlds, and boards that a wrong program leaves
 

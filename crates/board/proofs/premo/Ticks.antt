@@ -264,7 +264,7 @@ module _ (b : Board) (whole : Unbroken b) (i : ℕ) where
   abbrev played : Stage
   played = playFrom (ks b) (ps b) (clock b) (b .present) (b .tracks)
 
-  -- the third pass leaves every mode
+  -- the third part leaves every mode
   played-mode : trackAt (tickOf b .tracks) i .mode ≡ trackAt (played .tracks) i .mode
   unfolding tickFrom
   played-mode =

@@ -283,7 +283,7 @@ module _ (ks ds : List ℕ) (present : ℕ) (ts : List Track) (l : length ts ≡
         ⊎ ((Each (Still (played .tracks)) (members led) → ⊥)
         ⊎ Some (λ i. TurnsBackWithin (suc r) (trackAt ts i) (masterOf ts i)) (members led)))
 
-    -- the third pass takes no record back
+    -- the third part takes no record back
     play-written : 0 < length (played .records) → 0 < length (tickFrom ks ds clock present leapt .records)
     unfolding tickFrom
     play-written h = omega (arith, follow-adds clock (members (followWord present leapt)) played)

@@ -1,36 +1,34 @@
 -- The board whose next tick writes 64 records (02, 2.2), computed: it is unbroken, and what each part of its tick writes, in order.
+use Prim.Native.Nat.{ℕ}
 use mathlib.Core.Path.{_≡_, refl}
 use mathlib.Core.Bool.{true}
-use mathlib.Core.List.{List, [], _++_, map}
+use mathlib.Core.List.{List, _++_, map}
 use lib.ListN.{length}
 use Rattle.track.specs.Rule.{newTrack, entered, every, orderedTest, eventsTest, cellsTest, validTest, soundTest}
 use Rattle.track.specs.Follow.{upToZero, zerosTest, pairsTest, bandOf, judged, followerTest}
 use Rattle.track.specs.Number.{coordinateAt}
 use Rattle.track.specs.Grid.{gridOf}
 use Rattle.track.specs.Walk.{arrival, passesAt, stops, visited, step}
-use Rattle.board.specs.declared.log.Record.{Record}
 use Rattle.board.specs.Points.{keysOf, infosOf, keyOf, infoOf, pointOf, infoAt, waits}
 use Rattle.board.specs.Board.{isPresent, masterTest, trackTest, tracksTest, placeTest, allowedTest, pointsTest, shapeTest, unbrokenParts, unbrokenTest}
-use Rattle.board.specs.Tick.{membersFrom, members, pointRecords, changeRecords, playingWord, staged, stepRecords, stepMember, stepAll, commandRecords, commanded, runCommand, runAll, playFrom}
+use Rattle.board.specs.Tick.{membersFrom, members, pointRecords, changeRecords, playingWord, stepRecords, stepMember, stepAll, commandRecords, commanded, runCommand, runAll, playFrom}
 use Rattle.board.specs.Tick.{followWord, bandRecords, followMember, followAll, tickMost, tickFrom, tickOf}
-use Rattle.board.specs.Full.{numbers, partner, standsOn, fullTrack, fullPoint, fullRow, fullBoard, ofSteps, ofCommand, ofFollower}
+use Rattle.board.proofs.tick.Steps.{stepsFrom}
+use Rattle.board.specs.Full.{allTracks, partner, standsOn, fullTrack, fullPoint, fullRow, fullBoard, ofSteps, ofCommand, ofFollower}
 
--- the records of its steps, and those of its steps and their commands
-abbrev stepped : List Record
-stepped =
-    let b = fullBoard in
-    stepAll (keysOf (b .points)) (infosOf (b .points)) 1 (members (playingWord (b .present) (b .tracks))) (staged (b .tracks) [] []) .records
+abbrev keys : List ℕ
+keys = keysOf (fullBoard .points)
 
-abbrev played : List Record
-played = let b = fullBoard in playFrom (keysOf (b .points)) (infosOf (b .points)) 1 (b .present) (b .tracks) .records
+abbrev infos : List ℕ
+infos = infosOf (fullBoard .points)
 
 pub record FullTick : Type 0 where
   pub whole : unbrokenTest fullBoard ≡ true
   -- 32 records of the steps, then 16 of the commands, then 16 of the followers
-  pub of-steps : stepped ≡ ofSteps numbers
-  pub with-commands : played ≡ ofSteps numbers ++ map ofCommand numbers
-  pub with-followers : tickOf fullBoard .records ≡ ofSteps numbers ++ map ofCommand numbers ++ map ofFollower numbers
-  pub counts : (length (ofSteps numbers) ≡ 32) × (length (map ofCommand numbers) ≡ 16) × (length (map ofFollower numbers) ≡ 16)
+  pub of-steps : stepsFrom keys infos 1 (members (playingWord (fullBoard .present) (fullBoard .tracks))) (fullBoard .tracks) .records ≡ ofSteps allTracks
+  pub with-commands : playFrom keys infos 1 (fullBoard .present) (fullBoard .tracks) .records ≡ ofSteps allTracks ++ map ofCommand allTracks
+  pub with-followers : tickOf fullBoard .records ≡ ofSteps allTracks ++ map ofCommand allTracks ++ map ofFollower allTracks
+  pub counts : (length (ofSteps allTracks) ≡ 32) × (length (map ofCommand allTracks) ≡ 16) × (length (map ofFollower allTracks) ≡ 16)
   -- as many as a tick can write
   pub most : length (tickOf fullBoard .records) ≡ tickMost
 

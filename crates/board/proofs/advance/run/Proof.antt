@@ -1,6 +1,6 @@
 use Prim.Native.Nat.{ℕ, _+_}
 use Rattle.board.proofs.advance.run.Proof.Standing.{Inv-loop, μ-loop, Inv-ticks, μ-ticks, board, bits, shape, start, whole, leapable, mastered, pairs, turn, quiets, calm, fewer, leapt, ahead, whole′}
-use Rattle.board.proofs.advance.run.Proof.Standing.{all-leapt, leapt-all, short, longest, leap-at, entry, begins, same-word, over, member, stepping, played, leads, done, few, logged, walked, full}
+use Rattle.board.proofs.advance.run.Proof.Standing.{all-leapt, leapt-all, short, longest, leap-at, entry, begins, begins-word, over, member, stepping, played, leads, done, few, logged, walked, full}
 use Rattle.board.proofs.advance.Cost.{leap-less, walk-less}
 use Rattle.board.proofs.advance.Advancing.{going-start, going-ends, going-done, boardAt, whole-points}
 use Rattle.board.proofs.quiet.Leaps.{unbroken-leapable, unbroken-infos}
@@ -102,7 +102,7 @@ sub-room c = omega (arith, c .before .before .before .before .before .before .ti
 
 leapt-requires-2 : tie.Need-leapt-requires-2 Inv-loop μ-loop Inv-ticks μ-ticks
 leapt-requires-2 c κs =
-    let j = c .before .before .before in
+    let j = c .before .before .before .before in
     let f = fewer j in
     (leapable (turn j), omega (arith, j .before .smaller .ensures))
 
@@ -111,7 +111,7 @@ loop-holds c =
     let k = turn (leap-at c) .before .ticks in
     let w = whole′ (leap-at c) in
     let present = entry c .args .present in
-    turning-start _ _ _ _ _ _ _ (same-word c) (begins c .long) (subst (λ (w : ℕ). Leapable (c .if4 .tracks) (members w)) (sym (same-word c)) (begins c .leapable))
+    turning-start _ _ _ _ _ _ _ (begins-word c) (begins c .long) (subst (λ (w : ℕ). Leapable (c .if4 .tracks) (members w)) (sym (begins-word c)) (begins c .leapable))
     (subst (λ (us : List Track). Leapable us (members (playingWord present us))) (sym (begins c .leaps)) (unbroken-leapable _ w))
     (subst (λ (us : List Track). (i : ℕ) → isPresent present i ≡ true → Valid (trackAt us i)) (sym (begins c .leaps)) (λ i h. w .tracks i h .valid)) (k .inv .2) (k .inv .3)
 
@@ -158,8 +158,8 @@ info-at-requires c κs =
 cast-step-member : tie.Need-cast-step-member Inv-loop μ-loop Inv-ticks μ-ticks
 cast-step-member c = record { fits = (let l = member (c .before .before .before .before .before) .inside in omega arith) }
 
-add-t58 : tie.Need-add-t58 Inv-loop μ-loop Inv-ticks μ-ticks
-add-t58 c =
+add-t59 : tie.Need-add-t59 Inv-loop μ-loop Inv-ticks μ-ticks
+add-t59 c =
     let e = c .before .before .before .before .before .before .before .before .before in
     let n = short e in
     omega (arith, c .before .before .before .before .before .before .before .before .before .before .before .smaller .ensures, whole (c .before .before .before .before .before .before .before .before .before .before .before .before .before) .clock)
@@ -240,8 +240,8 @@ loop-again c =
     (c .before .before .before .before .before .before .before .before .before .before .step-member .ensures .0) (c .before .before .before .before .before .before .before .before .before .before .step-member .ensures .1)
     (c .before .before .before .note .ensures .0) (c .before .before .before .note .ensures .1 .0) (c .before .before .before .note .ensures .1 .1) (c .before .needs-more .ensures)
 
-add-t82 : tie.Need-add-t82 Inv-loop μ-loop Inv-ticks μ-ticks
-add-t82 c =
+add-t83 : tie.Need-add-t83 Inv-loop μ-loop Inv-ticks μ-ticks
+add-t83 c =
     let n = short (c .before .before .before .before .before) in
     omega (arith, c .before .before .before .before .before .before .before .smaller .ensures, whole (c .before .before .before .before .before .before .before .before .before) .clock)
 
@@ -256,11 +256,11 @@ run-commands-requires c κs =
     let k = c .before .before .before .before .loop in
     let v = k .inv .steps in (
       omega (arith, v .few-reached, v .reached-long),
-      (turning-rule _ _ _ _ _ (same-word (c .before .before .before .before .before)) _ _ _ _ _ _ _ _ (k .inv) (c .before .before .before .loop-test .left), omega (arith, v .few-reached, v .few-records, v .stage-long)),
+      (turning-rule _ _ _ _ _ (begins-word (c .before .before .before .before .before)) _ _ _ _ _ _ _ _ (k .inv) (c .before .before .before .loop-test .left), omega (arith, v .few-reached, v .few-records, v .stage-long)),
     )
 
-add-t89 : tie.Need-add-t89 Inv-loop μ-loop Inv-ticks μ-ticks
-add-t89 c =
+add-t90 : tie.Need-add-t90 Inv-loop μ-loop Inv-ticks μ-ticks
+add-t90 c =
     let j = leap-at (c .before .before .before .before) in
     let n = short (c .before .before .before .before .before .before) in
     omega (arith, j .before .smaller .ensures, whole (turn j) .clock)
@@ -287,10 +287,10 @@ commit-requires : tie.Need-commit-requires Inv-loop μ-loop Inv-ticks μ-ticks
 commit-requires c κs =
     let g = c .before .before .before .before .before .before .before .before .before .before .before .before .before .before .before .ticks .inv .0 in
     let d = done (c .before .before .before .before) in
-    (omega (arith, g .fits, g .long, c .before .before .before .if8 .left), omega (arith, d .stage-long, few (c .before .before .before .before)))
+    (omega (arith, g .fits, g .long, c .before .before .before .if9 .left), omega (arith, d .stage-long, few (c .before .before .before .before)))
 
 add-held : tie.Need-add-held Inv-loop μ-loop Inv-ticks μ-ticks
-add-held c = omega (arith, c .before .before .before .before .before .before .before .before .before .before .before .before .before .before .before .before .before .before .ticks .inv .0 .fits, c .before .before .before .before .before .before .if8 .left, c .before .before .before .before .before .before .before .before .before .before .before .before .before .before .before .before .before .before .before .before .before .before .before .before .good)
+add-held c = omega (arith, c .before .before .before .before .before .before .before .before .before .before .before .before .before .before .before .before .before .before .ticks .inv .0 .fits, c .before .before .before .before .before .before .if9 .left, c .before .before .before .before .before .before .before .before .before .before .before .before .before .before .before .before .before .before .before .before .before .before .before .before .good)
 
 add-clock-3 : tie.Need-add-clock-3 Inv-loop μ-loop Inv-ticks μ-ticks
 add-clock-3 c =
@@ -348,8 +348,8 @@ returns-3 c =
     (c .before .before .before .before .before .before .before .before .before .before .before .before .info-at .ensures ∙ ap (λ (l : ℕ). infoAt (key (trailingZeros 16 (c .before .before .before .before .before .before .before .before .before .before .before .before .before .before .before .before .before .before .loop .rest)) l) (keysOf (board (entry (c .before .before .before .before .before .before .before .before .before .before .before .before .before .before .before .before .before .before .before)) .points)) (infosOf (board (entry (c .before .before .before .before .before .before .before .before .before .before .before .before .before .before .before .before .before .before .before)) .points))) (c .before .before .before .before .before .before .before .before .before .before .before .before .before .before .arrival .ensures))
     (c .before .before .before .before .before .before .before .before .before .before .step-member .ensures .0) (c .before .before .before .before .before .before .before .before .before .before .step-member .ensures .1)
     (c .before .before .before .note .ensures .0) (c .before .before .before .note .ensures .1 .0) (c .before .before .before .note .ensures .1 .1) (c .before .needs-more .ensures) in
-    let o = over (c .before .before .before .before .before .before .before .before .before .before .before .before .before .before .before .before .before .before .before) _ (turning-over _ _ _ _ _ (same-word (c .before .before .before .before .before .before .before .before .before .before .before .before .before .before .before .before .before .before .before)) _ _ _ _ _ _ _ _ v) in
-    full (c .before .before .before .before .before .before .before .before .before .before .before .before .before .before .before .before .before .before .before) (omega (arith, c .if5 .taken, v .steps .few-records)) (omega (arith, c .if5 .taken))
+    let o = over (c .before .before .before .before .before .before .before .before .before .before .before .before .before .before .before .before .before .before .before) _ (turning-over _ _ _ _ _ (begins-word (c .before .before .before .before .before .before .before .before .before .before .before .before .before .before .before .before .before .before .before)) _ _ _ _ _ _ _ _ v) in
+    full (c .before .before .before .before .before .before .before .before .before .before .before .before .before .before .before .before .before .before .before) (omega (arith, c .if6 .taken, v .steps .few-records)) (omega (arith, c .if6 .taken))
 
 same-length-4 : tie.Need-same-length-4 Inv-loop μ-loop Inv-ticks μ-ticks
 same-length-4 c = c .before .before .before .before .before .before .before .before .before .before .before .before .ticks .inv .0 .long
@@ -357,7 +357,7 @@ same-length-4 c = c .before .before .before .before .before .before .before .bef
 returns-4 : tie.Need-returns-4 Inv-loop μ-loop Inv-ticks μ-ticks
 returns-4 c =
     let d = done (c .before) in
-    full (c .before .before .before .before .before) (omega (arith, c .if8 .taken, few (c .before))) (omega (arith, c .if8 .taken, d .count))
+    full (c .before .before .before .before .before) (omega (arith, c .if9 .taken, few (c .before))) (omega (arith, c .if9 .taken, d .count))
 
 pub run-spec : {M : Type 1} → statement M
 run-spec =
@@ -395,7 +395,7 @@ run-spec =
     add-here
     info-at-requires
     cast-step-member
-    add-t58
+    add-t59
     slice-aggregate-step-member
     step-member-requires
     mul-tracks
@@ -415,11 +415,11 @@ run-spec =
     sub-left
     loop-less
     loop-again
-    add-t82
+    add-t83
     slice-aggregate-run-commands
     slice-aggregate-run-commands-2
     run-commands-requires
-    add-t89
+    add-t90
     slice-aggregate-judge-bands
     judge-bands-requires
     mul-commit

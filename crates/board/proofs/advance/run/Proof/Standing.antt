@@ -6,7 +6,7 @@ use Rattle.board.specs.Advance.{Ended, turnsLeft}
 use Rattle.board.specs.declared.call.Advanced.the-variants.{Done, LogFull}
 use Rattle.board.proofs.tick.Bits.{Lowest}
 use Rattle.board.proofs.rules.Broken.{unbroken-of}
-use Rattle.board.proofs.quiet.Leaps.{unbroken-leapable, leap-tracks-word}
+use Rattle.board.proofs.quiet.Leaps.{unbroken-leapable, leap-tracks-word, leap-tracks-zero}
 use Rattle.board.proofs.advance.Turning.{Begins, begins-before, begins-leapt, Turning, turning-member, turning-leapt, turning-more, turning-still, Played}
 use Rattle.board.proofs.advance.Judged.{fewest-same, Ticked, played-judged, played-alone}
 use Rattle.board.proofs.quiet.Bands.{leap-follow-word}
@@ -211,18 +211,27 @@ begins c =
     let j = leap-at c in
     let k = turn j .before .ticks in
     let l = k .inv .0 .tracks-long in
-    ⊎-elim (λ w. begins-leapt _ _ (k .tracks) l (w .2 ∙ w .1 .ensures ∙ leapt-is j) (w .4) (unbroken-leapable _ (whole′ j)))
-    (λ w. begins-before _ _ (k .tracks) l (w .1) (w .3) (unbroken-leapable _ (whole (turn j)))) (c .if4 .came)
+    let still = unbroken-leapable _ (whole (turn j)) in
+    ⊎-elim (λ w. begins-leapt _ _ (k .tracks) l (w .3 ∙ w .2 .ensures ∙ leapt-is j) (w .5) (unbroken-leapable _ (whole′ j)))
+    (⊎-elim (λ w. begins-before _ _ (k .tracks) l (w .2) (w .4) still) (λ w. begins-before _ _ (k .tracks) l (w .1) (w .3) still)) (c .if4 .came)
 
 -- the word is of those that play then
-pub same-word : (c : tie.Joined4 Inv-loop μ-loop Inv-ticks μ-ticks) →
+pub begins-word : (c : tie.Joined4 Inv-loop μ-loop Inv-ticks μ-ticks) →
     turn (leap-at c) .before .ticks .word ≡ playingWord (entry c .args .present) (c .if4 .tracks)
-same-word c = turn (leap-at c) .before .ticks .inv .1 ∙ sym (begins c .word)
+begins-word c = turn (leap-at c) .before .ticks .inv .1 ∙ sym (begins c .word)
 
 -- the tracks to go back to, if the records might not fit
 pub kept-back : (c : tie.Joined4 Inv-loop μ-loop Inv-ticks μ-ticks) → capacity (length (entry c .args .log .now)) - turn (leap-at c) .before .ticks .held < tickMost → c .if4 .back ≡ leapt (leap-at c)
 kept-back c h =
-    ⊎-elim (λ w. w .3 ∙ w .1 .ensures ∙ leapt-is (leap-at c)) (λ w. absurd (omega (arith, w .0 .left))) (c .if4 .came)
+    let j = leap-at c in
+    let k = turn j .before .ticks in
+    let zero = leap-tracks-zero (entry c .args .present) (k .tracks) (k .inv .0 .tracks-long) (unbroken-leapable _ (whole (turn j))) in
+    ⊎-elim (λ w. w .4 ∙ w .2 .ensures ∙ leapt-is j)
+    (⊎-elim
+    (λ w.
+    let none : j .if2 .skipped ≡ 0 = omega (arith, w .1 .left) in
+    w .3 ∙ sym (ap (λ (n : ℕ). leapTracks n (entry c .args .present) (k .tracks)) none ∙ zero))
+    (λ w. absurd (omega (arith, w .0 .left)))) (c .if4 .came)
 
 -- the next member of the word
 pub member : (c : tie.In-loop Inv-loop μ-loop Inv-ticks μ-ticks) → Lowest (c .before .loop .rest)
@@ -240,7 +249,7 @@ tickAt c =
     let k = turn (leap-at c) .before .ticks in
     stageOf (board (entry c)) (k .log) (leapt (leap-at c)) (k .clock + leap-at c .if2 .skipped) (k .held)
 
--- as many records are part of it as are part of the tick from the tracks that the pass leaves when it has leapt them
+-- records of the tick that the pass works out are records of it
 pub over : (c : tie.Joined4 Inv-loop μ-loop Inv-ticks μ-ticks) (count : ℕ) →
     let k = turn (leap-at c) .before .ticks in
     let b = board (entry c) in
@@ -253,50 +262,50 @@ over c count =
     (λ (us : List Track). count ≤ length (stageOf b (k .log) us (k .clock + leap-at c .if2 .skipped) (k .held) .records))
     (begins c .leaps)
 
-abbrev pub tick : tie.Joined7 Inv-loop μ-loop Inv-ticks μ-ticks → Stage
+abbrev pub tick : tie.Joined8 Inv-loop μ-loop Inv-ticks μ-ticks → Stage
 tick c = tickAt (c .before .before .before .before)
 
 -- its steps and commands
-pub played : (c : tie.Joined6 Inv-loop μ-loop Inv-ticks μ-ticks) →
+pub played : (c : tie.Joined7 Inv-loop μ-loop Inv-ticks μ-ticks) →
     let k = c .before .before .before in
     let s = entry k .args in
     Played (parts (s .present) (s .keys .now) (s .infos .now) (s .n)) (leapt (leap-at k)) (turn (leap-at k) .before .ticks .clock + leap-at k .if2 .skipped)
-    (c .if6 .tracks) (c .if6 .total) (c .if6 .stage) (c .if6 .word)
+    (c .if7 .tracks) (c .if7 .total) (c .if7 .stage) (c .if7 .word)
 played c =
     let k = c .before .before .loop in
     let g = c .before .before .before in
     let s = entry g .args in
-    let w = same-word g in
+    let w = begins-word g in
     let l = c .before .loop-test .left in
     subst
     (λ (us : List Track).
-    Played (parts (s .present) (s .keys .now) (s .infos .now) (s .n)) us (turn (leap-at g) .before .ticks .clock + leap-at g .if2 .skipped) (c .if6 .tracks)
-    (c .if6 .total) (c .if6 .stage) (c .if6 .word))
+    Played (parts (s .present) (s .keys .now) (s .infos .now) (s .n)) us (turn (leap-at g) .before .ticks .clock + leap-at g .if2 .skipped) (c .if7 .tracks)
+    (c .if7 .total) (c .if7 .stage) (c .if7 .word))
     (begins g .leaps)
     (⊎-elim
     (λ r.
     turning-more _ _ _ _ _ w _ _ _ _ _ _ _ _ (k .inv) l (r .6 ∙ r .3 .ensures .0) (r .9 ∙ r .3 .ensures .1 .0) (r .8 ∙ r .3 .ensures .1 .1 .0)
     (r .7 ∙ r .3 .ensures .1 .1 .1 ∙ ap (playingWord _) (sym (r .6))))
-    (λ r. turning-still _ _ _ _ _ w _ _ _ _ _ _ _ _ (k .inv) l (r .0 .left) (r .1) (r .4) (r .3) (r .2)) (c .if6 .came))
+    (λ r. turning-still _ _ _ _ _ w _ _ _ _ _ _ _ _ (k .inv) l (r .0 .left) (r .1) (r .4) (r .3) (r .2)) (c .if7 .came))
 
 -- its followers
 pub leads : (c : tie.Joined2 Inv-loop μ-loop Inv-ticks μ-ticks) →
     turn c .before .before .followers .result ≡ followWord (start (turn c) .args .present) (leapt c)
 leads c = let k = turn c .before .ticks in k .inv .4 ∙ sym (leap-follow-word (c .if2 .skipped) _ (k .tracks))
 
-pub done : (c : tie.Joined7 Inv-loop μ-loop Inv-ticks μ-ticks) →
+pub done : (c : tie.Joined8 Inv-loop μ-loop Inv-ticks μ-ticks) →
     let k = c .before .before .before .before in
     let s = entry k .args in
     Ticked (parts (s .present) (s .keys .now) (s .infos .now) (s .n)) (leapt (leap-at k)) (turn (leap-at k) .before .ticks .clock + leap-at k .if2 .skipped)
-    (c .if7 .tracks) (c .if7 .total) (c .if7 .stage) (c .before .if6 .word)
+    (c .if8 .tracks) (c .if8 .total) (c .if8 .stage) (c .before .if7 .word)
 done c =
     let p = played (c .before) in
     let e = leads (leap-at (c .before .before .before .before)) in
     ⊎-elim
     (λ r. played-judged _ _ _ _ _ _ _ p _ e (r .5 ∙ r .2 .ensures .0) (r .7 ∙ r .2 .ensures .1 .0) (r .6 ∙ r .2 .ensures .1 .1))
-    (λ r. played-alone _ _ _ _ _ _ _ p _ e (r .0 .left) (r .1) (r .3) (r .2)) (c .if7 .came)
+    (λ r. played-alone _ _ _ _ _ _ _ p _ e (r .0 .left) (r .1) (r .3) (r .2)) (c .if8 .came)
 
-pub few : (c : tie.Joined7 Inv-loop μ-loop Inv-ticks μ-ticks) → c .if7 .total ≤ tickMost
+pub few : (c : tie.Joined8 Inv-loop μ-loop Inv-ticks μ-ticks) → c .if8 .total ≤ tickMost
 few c =
     let k = c .before .before .before .before in
     let b = board (entry k) in
@@ -316,7 +325,7 @@ pub walked : (c : tie.After-slice-known2 Inv-loop μ-loop Inv-ticks μ-ticks) �
     let d = c .before .before .before .before .before .before .before in
     let j = c .before .before .before .before .before .before .before .before .before .before .before .before .before .before in
     let k = turn j .before .ticks in
-    Going (board (start (turn j))) (start (turn j) .args .count .0) (start (turn j) .args .log .now) (c .before .before .commit .last .0) (d .if7 .tracks) (k .clock + j .if2 .skipped + 1) (k .held + d .if7 .total) (k .taken + j .if2 .skipped + 1)
+    Going (board (start (turn j))) (start (turn j) .args .count .0) (start (turn j) .args .log .now) (c .before .before .commit .last .0) (d .if8 .tracks) (k .clock + j .if2 .skipped + 1) (k .held + d .if8 .total) (k .taken + j .if2 .skipped + 1)
     (Done (record { 0 = k .taken + j .if2 .skipped + 1 }))
 walked c =
     let j = c .before .before .before .before .before .before .before .before .before .before .before .before .before .before in
@@ -327,10 +336,10 @@ walked c =
     let e = j .before .smaller .ensures in
     let rs = tick (c .before .before .before .before .before .before .before) .records in
     let bytes = logged c in
-    going-tick _ _ _ _ _ _ _ _ _ g (omega (arith, turn j .ticks-test .taken)) (omega (arith, whole (turn j) .clock)) (d .tracks) (d .count) (omega (arith, c .before .before .before .before .before .before .if8 .left))
+    going-tick _ _ _ _ _ _ _ _ _ g (omega (arith, turn j .ticks-test .taken)) (omega (arith, whole (turn j) .clock)) (d .tracks) (d .count) (omega (arith, c .before .before .before .before .before .before .if9 .left))
     bytes
     (ap length bytes ∙ length-write (k .log) (logBytes rs) (k .held * recordWidth)
-    (omega (arith, length-log rs, d .count, g .fits, g .long, c .before .before .before .before .before .before .if8 .left)))
+    (omega (arith, length-log rs, d .count, g .fits, g .long, c .before .before .before .before .before .before .if9 .left)))
     (ap length (d .tracks) ∙ tick-long _ _ _ _ _ ∙ g .tracks-long)
 
 -- its records don't fit: the tracks are those that the leap left

@@ -1,10 +1,12 @@
 -- A tick apart from the log (02, 2.2): "what a taken tick writes, and the board after it but for held, are the same for every log and
 -- count held".
-use Prim.Native.Nat.{ℕ}
+use Prim.Native.Nat.{ℕ, _+_, _*_}
 use mathlib.Core.Path.{_≡_}
 use mathlib.Core.List.{List}
 use mathlib.Core.Option.{none}
+use lib.Seq.{sets}
 use Rattle.board.specs.declared.Board.{Board}
+use Rattle.board.specs.Log.{recordWidth}
 use Rattle.board.specs.Replay.{World, w-halt, written}
 use Rattle.board.specs.Call.{heldAt, gridstep, world}
 
@@ -12,7 +14,13 @@ use Rattle.board.specs.Call.{heldAt, gridstep, world}
 abbrev pub IsTaken : Board → ℕ → List ℕ → Type 0
 IsTaken b h log = w-halt gridstep (world (heldAt h b) log) ≡ none
 
--- what is written from w to v is what is written from w′ to v′, byte for byte, and the boards left are the same but for held
+-- from w to v the log is written behind the held records and nowhere else
+abbrev pub OnlyBehind : World Board → World Board → Type 0
+OnlyBehind w v = v .log ≡ sets (w .log) (recordWidth * w .board .held) (written gridstep w v)
+
+-- From w to v and from w′ to v′ the same bytes are written, to as many records, and the boards left are the same but for held.
 pub record SameTick (w v w′ v′ : World Board) : Type 0 where
   pub writes : written gridstep w v ≡ written gridstep w′ v′
+  pub nowhere-else : OnlyBehind w v × OnlyBehind w′ v′
+  pub counts : (n : ℕ) × (v .board .held ≡ w .board .held + n) × (v′ .board .held ≡ w′ .board .held + n)
   pub leaves : heldAt 0 (v .board) ≡ heldAt 0 (v′ .board)

@@ -8,9 +8,9 @@ use mathlib.Core.Option.{Option, none, some}
 use native.Mathlib.Omega.{arith}
 use lib.IntN.{pos}
 use lib.ListN.{length}
+use lib.Seq.{sets}
 use contract.Lifetimes.{Lfts}
 use denote.Ref.{RefT, now}
-use borrow.Author.Tests.{le-leb, lt-leb}
 use Rattle.track.specs.Rule.{clockEnd}
 use Rattle.track.proofs.Numbers.{natural-of}
 use Rattle.board.specs.declared.Board.{Board}
@@ -23,14 +23,15 @@ use Rattle.board.specs.Board.{unbrokenTest}
 use Rattle.board.specs.Tick.{tickOf, tickMost}
 use Rattle.board.specs.Cut.{Ran, ticks, run}
 use Rattle.board.specs.Replay.{World, w-halt, w-bar, w-step, written, perform}
-use Rattle.board.specs.Call.{refused, done, logFull, Stop, fills, stoppedBy, takenIn, advancedSaid, heldAt, ticked, haltOf, barOf, gridstep, most, runCount, does, world, Gives}
+use Rattle.board.specs.Call.{refused, done, logFull, Stop, fills, stoppedBy, takenIn, advancedSaid, heldAt, ticked, gridstep, most, runCount, does, world, Gives}
 use Rattle.board.specs.Full.{fullBoard}
-use Rattle.board.specs.Apart.{IsTaken, SameTick}
+use Rattle.board.specs.SameTick.{IsTaken, OnlyBehind, SameTick}
 use Rattle.board.proofs.replay.Cuts.{ticks-on, ticks-off, advance-in, advance-out}
 use Rattle.board.proofs.replay.Replays.{tick-written}
-use Rattle.board.proofs.call.Machine.{flat-is, counts, room, read, halt-none}
-use Rattle.board.proofs.tick.Steps.{tick-few}
+use Rattle.board.proofs.call.Machine.{flat-is, counts, room, read}
+use Rattle.board.proofs.call.Machine as machine
 use Rattle.board.proofs.tick.Full.{full-tick}
+use Rattle.board.proofs.advance.Advancing.{halt-none, halt-fills, open-bar}
 use Rattle.board.proofs.advance.advance.Reads as advance-says
 
 -- ---- the tick
@@ -41,33 +42,34 @@ module _ (b : Board) (h : ℕ) (log : List ℕ) where
   lent = world (heldAt h b) log
 
   -- below the clock's end a tick is taken if its records fit, and only then
-  pub tick-kept : b .clock .0 < clockEnd → h + length (tickOf b .records) ≤ capacity (length log) → IsTaken b h log
-  unfolding haltOf
-  tick-kept l f = simp (lt-leb clockEnd (b .clock .0) l, le-leb (h + length (tickOf b .records)) (capacity (length log)) f)
-
-  pub tick-stopped : b .clock .0 < clockEnd → capacity (length log) < h + length (tickOf b .records) → w-halt gridstep lent ≡ some fills
-  unfolding haltOf
-  tick-stopped l f = simp (lt-leb clockEnd (b .clock .0) l, lt-leb (h + length (tickOf b .records)) (capacity (length log)) f)
+  pub tick-taken : b .clock .0 < clockEnd → h + length (tickOf b .records) ≤ capacity (length log) → IsTaken b h log
+  tick-taken = halt-none b log (b .tracks) (b .clock .0) h
 
   pub tick-fits : IsTaken b h log → (b .clock .0 < clockEnd) × (h + length (tickOf b .records) ≤ capacity (length log))
-  tick-fits = halt-none (length log) (heldAt h b)
+  tick-fits = machine.halt-none (length log) (heldAt h b)
 
   -- what it writes is told by the board alone
   pub tick-writes : IsTaken b h log → written gridstep lent (w-step gridstep lent) ≡ logBytes (tickOf b .records)
   tick-writes t = tick-written gridstep counts room lent t ∙ flat-is (tickOf b .records)
 
-  -- and so is the board after it but for held, which grows by its records
+  -- it stands behind the held records, and nothing else is written
+  pub tick-behind : IsTaken b h log → OnlyBehind lent (w-step gridstep lent)
+  tick-behind t = ap (sets log (recordWidth * h)) (sym (tick-written gridstep counts room lent t))
+
+  -- the board after it is told by the board alone but for held, which grows by its records
   pub tick-leaves : w-step gridstep lent .board ≡ heldAt (h + length (tickOf b .records)) (ticked b)
   tick-leaves = refl
-
--- at most 64 records
-pub tick-most : (b : Board) → length (tickOf b .records) ≤ tickMost
-tick-most b = tick-few _ _ _ _ _
 
 -- "the same for every log and count held"
 pub tick-alike : (b : Board) (h h′ : ℕ) (log log′ : List ℕ) → IsTaken b h log → IsTaken b h′ log′ →
     SameTick (lent b h log) (w-step gridstep (lent b h log)) (lent b h′ log′) (w-step gridstep (lent b h′ log′))
-tick-alike b h h′ log log′ t t′ = record { writes = tick-writes b h log t ∙ sym (tick-writes b h′ log′ t′); leaves = refl }
+tick-alike b h h′ log log′ t t′ =
+    record {
+      writes = tick-writes b h log t ∙ sym (tick-writes b h′ log′ t′);
+      nowhere-else = (tick-behind b h log t, tick-behind b h′ log′ t′);
+      counts = (length (tickOf b .records), refl, refl);
+      leaves = refl;
+    }
 
 -- ---- the function
 
@@ -110,17 +112,16 @@ module _ (w : World Board) where
 
 -- an advance by 1 of an unbroken board, whose held records are in the log, below the clock's end: its tick is kept if its records fit
 module _ (b : Board) (h : ℕ) (log : List ℕ) (u : unbrokenTest b ≡ true) (f : h ≤ capacity (length log)) (l : b .clock .0 < clockEnd) where
-  open-bar : w-bar gridstep (lent b h log) ≡ none
-  unfolding barOf
-  open-bar = rw (u, le-leb h (capacity (length log)) f)
+  goes : w-bar gridstep (lent b h log) ≡ none
+  goes = open-bar (heldAt h b) log (pos 1) u f
 
   pub one-kept : h + length (tickOf b .records) ≤ capacity (length log) →
       does (call.Advance (pos 1)) (lent b h log) ≡ record { answer = done 1; left = w-step gridstep (lent b h log) }
-  one-kept r = one-went (lent b h log) open-bar ∙ rw (one-on (lent b h log) (tick-kept b h log l r))
+  one-kept r = one-went (lent b h log) goes ∙ rw (one-on (lent b h log) (tick-taken b h log l r))
 
   -- else the board and the log are left as they were
   pub one-stopped : capacity (length log) < h + length (tickOf b .records) → does (call.Advance (pos 1)) (lent b h log) ≡ record { answer = logFull 0; left = lent b h log }
-  one-stopped r = one-went (lent b h log) open-bar ∙ rw (one-off (lent b h log) fills (tick-stopped b h log l r))
+  one-stopped r = one-went (lent b h log) goes ∙ rw (one-off (lent b h log) fills (halt-fills b log (b .tracks) (b .clock .0) h l r))
 
 -- any function that gives what an advance by 1 does has taken that tick if it answers Done with 1
 pub gives-tick : (b : Board) (h : ℕ) (log : List ℕ) {board : Board} {log′ : List ℕ} →
