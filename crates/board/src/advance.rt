@@ -62,6 +62,7 @@ fn run<'a>(
     let slots = log.len() / Record::WIDTH;
     let wanted = count.0;
     let mut tracks = given;
+    // The tracks to go back to if a tick's records don't fit, set anew before each tick of which that can be.
     let mut back = given;
     let mut word = playing(given, present);
     let led = followers(given, present);
@@ -94,8 +95,8 @@ fn run<'a>(
         clock += skipped;
         taken += skipped;
         let room = slots - held;
-        // The log may be too short for this tick: `back` gets the tracks as they are before it. So they are leapt now, if they are to be
-        // leapt at all, and the pass leaps nothing.
+        // Where the log may be too short for this tick, `back` keeps the tracks as they are before it: what is to be leapt is leapt
+        // now, and the pass leaps nothing.
         if room < Staged::MOST {
             if 0 < skipped {
                 let moved = leapt(tracks, word, Ticks(skipped));
