@@ -8,9 +8,10 @@ use crate::model::Model;
 /// One call on both: the same answer, board and log bytes.
 pub fn agree<B: Alike>(board: &mut B, model: &mut Model, call: Call, log: &[u8]) -> Reply {
     let (mut board_log, mut log) = (log.to_vec(), log.to_vec());
+    let before = model.clone();
     let reply = model.apply(call, &mut log);
-    assert_eq!(board.apply(call, &mut board_log), reply, "{call:?}, a log of {}: {model:?}", log.len());
-    assert!(board.like(model) && board_log == log, "{call:?}, a log of {}: {model:?}", log.len());
+    assert_eq!(board.apply(call, &mut board_log), reply, "{call:?}, a log of {}, on {before:?}", log.len());
+    assert!(board.like(model) && board_log == log, "{call:?}, a log of {}, on {before:?}", log.len());
     reply
 }
 

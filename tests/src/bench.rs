@@ -49,7 +49,7 @@ impl Alike for Library {
     }
 }
 
-/// A board whose count of records held can be set at will, and that can be held against another, whole.
+/// A board whose number of records held can be set at will, and that can be compared whole with another.
 pub trait Held: Begun + Clone {
     fn held(&mut self) -> &mut u64;
     fn equals(&self, other: &Self) -> bool;

@@ -31,8 +31,9 @@ fn passes(t: i64) -> i64 {
     1 - t % 2
 }
 
-/// A board whose first tick writes 64 records. Each track reaches a point that makes it wait and plays another track in
-/// vain, since that waits too; and each follows its neighbour, from which it is 85 to 99 apart.
+/// A board whose first tick writes 64 records. Each track reaches a point that makes it wait, and the point's command,
+/// play for another track, is refused, since that one waits too; and each follows its neighbour, from which it is 85 to 99
+/// apart. The same calls are in board/proofs/lists/FullCalls.
 pub fn set_up() -> Vec<Call> {
     let tracks = (0..=LAST).map(|t| Track(t, 0, END));
     let others = (0..=LAST).flat_map(|t| {
@@ -55,7 +56,7 @@ fn lines() -> Vec<[i64; 7]> {
     steps.chain((0..=LAST).rev().map(command)).chain(bands).collect()
 }
 
-/// Track t as these calls leave it: every field of the board of 64 records (`fullBoard` of board/specs/Full).
+/// Track t as these calls leave it, every field (`fullTrack` of board/specs/Full).
 fn drawn(t: i64) -> track::Track {
     let mut actions = [[0; 4]; 4];
     actions[PLAYING as usize][WAITING as usize] = 20 + t;
@@ -153,7 +154,7 @@ impl<B: Held> Stretch<B> {
     }
 
     /// Lends the board anew, with another count held and another log. The room decides whether the ticks are taken;
-    /// nothing of either is seen in what they do. More than one tick at once needs room for all.
+    /// nothing of either is seen in what they do. Of more than one tick, the log must have room for all.
     fn lend(&self, board: &B, held: u64, log: &[u8], place: &str) -> Reply {
         let records = (self.records.len() / RECORD) as u64;
         let reply = match (capacity(log) as u64).checked_sub(held) {
@@ -215,8 +216,8 @@ fn log_of(held: i64, more: i64, rng: &mut Rng) -> Vec<u8> {
     rng.bytes((held * RECORD as i64 + more).max(0))
 }
 
-/// Counts held, and logs for each by the bytes of a tick's records: room for just these, with a tail, a byte less, for
-/// fewer records than a tick may have, for its most, more, any bytes up to them, and less than what is held.
+/// Pairs of a count held and a log. Behind the held records the log has room for just the tick's bytes; these and a tail;
+/// a byte less; fewer than 64 records; 64; more; any number of bytes up to the tick's; or it is too short for what is held.
 fn lendings(bytes: i64, rng: &mut Rng) -> Vec<(u64, Vec<u8>)> {
     let (record, full) = (RECORD as i64, FULL as i64);
     let mut pairs = vec![(u64::MAX, rng.bytes(full))];

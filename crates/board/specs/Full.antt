@@ -28,7 +28,7 @@ allPresent = 2 ^ trackCount - 1
 abbrev pub allTracks : List ℕ
 allTracks = members allPresent
 
--- what an even and an odd number have
+-- the first for an even number, the second for an odd one
 abbrev pub byPair : {A : Type 0} → ℕ → A → A → A
 byPair i even odd = cond (eqb (i % 2) 0) even odd
 
@@ -36,7 +36,8 @@ byPair i even odd = cond (eqb (i % 2) 0) even odd
 unfoldable pub partner : ℕ → ℕ
 partner i = byPair i (i + 1) (i - 1)
 
--- of a pair, each from 0 to 100, one stands on its far position, the other as far from its home as its number says: 85 to 99 apart
+-- each track goes from 0 to 100; the even one of a pair stands on its far position, the odd one as far from home as its number says: 85 to
+-- 99 apart
 unfoldable pub standsOn : ℕ → ℕ
 standsOn i = byPair i 100 i
 
@@ -89,6 +90,6 @@ ofSteps (i ∷ is) =
 unfoldable pub ofCommand : ℕ → Record
 ofCommand i = fullRecord (opposite i) 3 (40 + i) (PLAY * detailUnit + WAITING) (passesThen (opposite i))
 
--- of the followers: the first band entered, with the master's number
+-- of the followers: each enters its first band; the detail is the master's number
 unfoldable pub ofFollower : ℕ → Record
 ofFollower i = fullRecord i 4 (80 + i) (partner i) (passesThen i)

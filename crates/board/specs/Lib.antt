@@ -11,11 +11,11 @@ pub mod Stay
 pub mod Steady
 pub mod Quiet
 pub mod Advance
-pub mod SameTick
 pub mod Apply
 pub mod Row
 pub mod Replay
 pub mod Cut
+pub mod SameTick
 pub mod Lists
 pub mod Arrivals
 pub mod premo

@@ -18,7 +18,8 @@ IsTaken b h log = w-halt gridstep (world (heldAt h b) log) ≡ none
 abbrev pub OnlyBehind : World Board → World Board → Type 0
 OnlyBehind w v = v .log ≡ sets (w .log) (recordWidth * w .board .held) (written gridstep w v)
 
--- From w to v and from w′ to v′ the same bytes are written, to as many records, and the boards left are the same but for held.
+-- From w to v and from w′ to v′ the same bytes are written, behind the held records and nowhere else; held grows by the same number; the
+-- boards left are the same but for held.
 pub record SameTick (w v w′ v′ : World Board) : Type 0 where
   pub writes : written gridstep w v ≡ written gridstep w′ v′
   pub nowhere-else : OnlyBehind w v × OnlyBehind w′ v′

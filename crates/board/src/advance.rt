@@ -62,7 +62,7 @@ fn run<'a>(
     let slots = log.len() / Record::WIDTH;
     let wanted = count.0;
     let mut tracks = given;
-    // The tracks to go back to if a tick's records don't fit, set anew before each tick of which that can be.
+    // The tracks to go back to if a tick's records don't fit; set before every tick that might not fit.
     let mut back = given;
     let mut word = playing(given, present);
     let led = followers(given, present);
@@ -95,8 +95,8 @@ fn run<'a>(
         clock += skipped;
         taken += skipped;
         let room = slots - held;
-        // Where the log may be too short for this tick, `back` keeps the tracks as they are before it: what is to be leapt is leapt
-        // now, and the pass leaps nothing.
+        // Where this tick's records might not fit, `back` keeps the tracks as they stand before it. So the leap, if there is one, is
+        // made here, and the pass has none to make.
         if room < Staged::MOST {
             if 0 < skipped {
                 let moved = leapt(tracks, word, Ticks(skipped));

@@ -144,8 +144,8 @@ needs-more-not before d mode = go before (eqb (commandOf d) 0) (eqb mode PLAYING
 
 -- ---- where the pass begins
 
--- The pass begins with the tracks ts and leaps the ticks unleapt: that comes to as many as skipped on from the tracks before. The same
--- tracks play.
+-- The pass begins with the tracks `ts` and has `unleapt` ticks still to leap. That leads to the same tracks as `skipped` ticks on from the
+-- tracks `before`, and the same tracks play.
 pub record Begins (present skipped : ℕ) (before : List Track) (unleapt : ℕ) (ts : List Track) : Type 0 where
   pub leaps : leapTracks unleapt present ts ≡ leapTracks skipped present before
   pub few : unleapt ≤ skipped
@@ -165,7 +165,7 @@ module _ (present skipped : ℕ) (before : List Track) (l : length before ≡ tr
         leapable = subst (λ (us : List Track). Leapable us (members (playingWord present us))) (sym et) a;
       }
 
-  -- all of them are, and none in it
+  -- every tick is leapt before the pass, and none in it
   pub begins-leapt : ts ≡ leapTracks skipped present before → unleapt ≡ 0 →
       Leapable (leapTracks skipped present before) (members (playingWord present (leapTracks skipped present before))) → Begins present skipped before unleapt ts
   begins-leapt et el a =

@@ -3,7 +3,7 @@ use Prim.Native.Nat.{ℕ, _+_, _-_, _*_}
 use mathlib.Core.Path.{_≡_, refl}
 use mathlib.Core.List.{List, [], _∷_, _++_, map}
 use lib.IntN.{pos}
-use lib.ListN.{replicate}
+use lib.ListN.{length, replicate}
 use Rattle.track.specs.declared.setup.Change.the-variants as change
 use Rattle.track.specs.Rule.{PLAYING, WAITING}
 use Rattle.track.specs.Grid.{PLAY}
@@ -18,10 +18,11 @@ use Rattle.board.proofs.lists.Runs.{ran, allOf, alike, alike-same}
 use Rattle.board.proofs.lists.Cards.{track, action, jump, point, play, advance, fresh}
 use Rattle.board.proofs.lists.FollowerCards.{master, two}
 
--- each track is added, then each is set up and played
+-- repeat on
 abbrev repeat : ℕ → Call
 repeat i = call.SetUp (pos i) (change.Repeat (pos 1))
 
+-- each of these tracks is set up and played
 unfoldable pub setUpAll : List ℕ → List Call
 setUpAll [] = []
 setUpAll (i ∷ is) =
@@ -33,15 +34,17 @@ setUpAll (i ∷ is) =
     ∷ play i
     ∷ setUpAll is
 
+-- all tracks are added, then each is set up and played
 unfoldable pub fullCalls : List Call
 fullCalls = map (λ i. track i 0 100) allTracks ++ setUpAll allTracks
 
 pub record FullCalls : Type 0 where
-  -- they give the board, by every number of it
+  -- they give the board, number by number: clock, held, the word of those present, each point and each field of each track (the point
+  -- table's empty places are left out; the answer and the log, which `allOf` takes too, are the same on both sides)
   pub reached : allOf accepted (ran fullCalls (fresh 0) .last .board) [] ≡ allOf accepted fullBoard []
   -- on a log of as many bytes as 64 records need all are accepted and the tick is taken, on one of a byte less it is not
-  pub fits : ran (fullCalls ++ (advance 1 ∷ [])) (fresh (tickMost * recordWidth)) .answers ≡ replicate 112 accepted ++ (done 1 ∷ [])
-  pub fills : ran (fullCalls ++ (advance 1 ∷ [])) (fresh (tickMost * recordWidth - 1)) .answers ≡ replicate 112 accepted ++ (logFull 0 ∷ [])
+  pub fits : ran (fullCalls ++ (advance 1 ∷ [])) (fresh (tickMost * recordWidth)) .answers ≡ replicate (length fullCalls) accepted ++ (done 1 ∷ [])
+  pub fills : ran (fullCalls ++ (advance 1 ∷ [])) (fresh (tickMost * recordWidth - 1)) .answers ≡ replicate (length fullCalls) accepted ++ (logFull 0 ∷ [])
 
 pub full-calls : FullCalls
 unfolding ran setUpAll fullCalls coordinateAt partner standsOn fullTrack fullPoint fullRow fullBoard alike

@@ -173,12 +173,12 @@ traps =
     ∷ gives (advance 1) paired (done 1) commandedFirst
     ∷ []
 
--- 02, 2.2: a tick that is another with two records held; an advance by 1 on card A's board
+-- 02, 2.2: wrong programs whose tick depends on what is held: an advance by 1 of card A's board with two records held
 abbrev pub ticksByLog : List Claim
 ticksByLog =
     -- its record tells a clock that grows with the records held
     gives (advance 1) holding (done 1) (world (heldAt 3 (played 96 (advance 1 ∷ []) .board)) (replicate 32 0 ++ set (take 16 logA) 0 3 ++ replicate 48 0))
-    -- it stands where the held ones begin
+    -- its record is written over the first held one
     ∷ gives (advance 1) holding (done 1) (world (heldAt 3 (played 96 (advance 1 ∷ []) .board)) (take 16 logA ++ replicate 80 0))
     -- the board after it is another than with no record held
     ∷ gives (advance 1) holding (done 1) (world (heldAt 3 (played 96 (advance 2 ∷ []) .board)) (replicate 32 0 ++ take 16 logA ++ replicate 48 0))

@@ -48,11 +48,12 @@ shown calls w = seen (ran calls w)
 
 -- ---- what is computed, by its numbers
 
--- every number of an answer, a board and a log
+-- every number of these tracks
 abbrev numbers : List Track → List ℕ
 numbers [] = []
 numbers (t ∷ ts) = trackNumbers (trackValues t) ++ numbers ts
 
+-- every number of an answer, a board and a log, but for the empty places of the point table
 abbrev pub allOf : Reply → Board → List ℕ → List ℕ
 allOf a b log =
     numbersOf a

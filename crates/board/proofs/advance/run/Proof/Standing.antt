@@ -249,7 +249,7 @@ tickAt c =
     let k = turn (leap-at c) .before .ticks in
     stageOf (board (entry c)) (k .log) (leapt (leap-at c)) (k .clock + leap-at c .if2 .skipped) (k .held)
 
--- records of the tick that the pass works out are records of it
+-- the tick from the tracks that the pass begins with, leapt, is this one: a count that its records reach, these reach too
 pub over : (c : tie.Joined4 Inv-loop μ-loop Inv-ticks μ-ticks) (count : ℕ) →
     let k = turn (leap-at c) .before .ticks in
     let b = board (entry c) in
