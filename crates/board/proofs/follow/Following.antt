@@ -4,11 +4,10 @@ use mathlib.Core.Bool.{Bool, true, false, cond, not, _||_}
 use mathlib.Core.List.{List, [], _∷_, _++_, append-nil, append-assoc}
 use Prim.Native.Nat.{ℕ, zero, suc, _+_, _-_, _*_, _/_, _%_, _^_, _≤_, _<_, suc-le-suc}
 use native.Mathlib.Omega.{arith}
-use native.Mathlib.Nat.{add-zero, zero-add, add-suc, suc-add, pow-suc, zero-div, div-one}
-use lib.Pow.{pow-mono}
+use native.Mathlib.Nat.{add-zero, zero-add, add-suc, suc-add, zero-div}
 use lib.Dec.{eqb}
-use lib.ListN.{length, set, getD, drop, length-append, length-set, length-drop, drop-of-length-le}
-use lib.Seq.{set-getD, drop-cons}
+use lib.ListN.{length, set, getD, length-append, length-set}
+use lib.Seq.{set-getD}
 use borrow.Author.Tests.{eqb-true, eqb-false, eq-eqb, ne-eqb}
 use Rattle.track.specs.declared.Track.{Track}
 use Rattle.track.specs.Rule.{PLAYING, Valid}
@@ -21,7 +20,7 @@ use Rattle.board.specs.Board.{noTrack, trackAt, isPresent}
 use Rattle.board.specs.Tick.{keep, membersFrom, members, recordOf, playingWord, Stage, staged}
 use Rattle.board.specs.Tick.{followBit, followWord, bandRecords, followMember, followAll, bandBit, bandCount}
 use Rattle.board.proofs.rules.Broken.{present-bit, half-bit}
-use Rattle.board.proofs.tick.PlayingLaws.{half}
+use Rattle.board.proofs.tick.PlayingLaws.{WordBy}
 use Rattle.board.proofs.tick.Commands.{at-set}
 
 -- ---- one follower
@@ -217,45 +216,10 @@ follow-bit-no bit t e = simp (eq-eqb _ _ e)
 pub follow-bit-small : (bit : ℕ) (t : Track) → bit ≤ 1 → followBit bit t ≤ 1
 follow-bit-small bit t h = cond-cases (λ (n : ℕ). n ≤ 1) (follows t) (λ e. h) (λ e. omega arith)
 
--- a word of at most n tracks has n bits
-follow-below : (n present : ℕ) (ts : List Track) → length ts ≤ n → followWord present ts < 2 ^ n
+-- the word of the followers is a word of tracks
+pub follow-word-by : WordBy followBit followWord
 unfolding followWord
-follow-below n present [] h = let m : 2 ^ 0 ≤ 2 ^ n = pow-mono h in omega arith
-follow-below n present (t ∷ ts) h =
-    let m : 2 ^ suc (length ts) ≤ 2 ^ n = pow-mono h in
-    let b = follow-bit-small (present % 2) t (omega arith) in
-    let r : followWord (present / 2) ts < 2 ^ length ts = follow-below (length ts) (present / 2) ts (omega arith) in
-    let e = pow-suc 2 (length ts) in
-    omega arith
-
--- ---- a turn of the loop from the last track down
-
-module _ (ts : List Track) (l : length ts ≡ trackCount) (w : ℕ) where
-  -- above the last track
-  pub follow-none : 0 ≡ followWord (w / 2 ^ trackCount) (drop trackCount ts)
-  unfolding followWord
-  follow-none = ap (followWord (w / 2 ^ trackCount)) (sym (drop-of-length-le ts {i = trackCount} (omega arith)))
-
-  -- at the first track
-  pub follow-all : {i : ℕ} → i ≡ 0 → followWord (w / 2 ^ i) (drop i ts) ≡ followWord w ts
-  follow-all e = ap (λ (n : ℕ). followWord (w / 2 ^ n) (drop n ts)) e ∙ ap (λ (v : ℕ). followWord v ts) (div-one w)
-
-  module _ (i : ℕ) (p : 0 < i) where
-    -- room for one track more
-    pub follow-small : followWord (w / 2 ^ i) (drop i ts) < 2 ^ 15
-    follow-small = follow-below 15 (w / 2 ^ i) (drop i ts) (simp length-drop (omega arith))
-
-    -- one track more
-    pub follow-next : i ≤ trackCount → followWord (w / 2 ^ i) (drop i ts) * 2 + followBit (w / 2 ^ (i - 1) % 2) (trackAt ts (i - 1))
-        ≡ followWord (w / 2 ^ (i - 1)) (drop (i - 1) ts)
-    unfolding followWord
-    follow-next q =
-        let e : suc (i - 1) ≡ i = omega arith in
-        let k : followWord (w / 2 ^ (i - 1) / 2) (drop i ts) ≡ followWord (w / 2 ^ i) (drop i ts) = ap (λ (v : ℕ). followWord v (drop i ts)) (half w i p) in
-        let r : followWord (w / 2 ^ (i - 1)) (drop (i - 1) ts)
-        ≡ followBit (w / 2 ^ (i - 1) % 2) (trackAt ts (i - 1)) + followWord (w / 2 ^ (i - 1) / 2) (drop i ts) * 2 =
-        ap (followWord (w / 2 ^ (i - 1))) (drop-cons ts (i - 1) noTrack (omega arith) ∙ ap (λ (n : ℕ). trackAt ts (i - 1) ∷ drop n ts) e) in
-        omega arith
+follow-word-by = record { small = follow-bit-small; none = λ w. refl; more = λ w t ts. refl }
 
 -- ---- the followers are present, and follow
 

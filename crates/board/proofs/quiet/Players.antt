@@ -1,5 +1,5 @@
 -- The playing tracks of a board: the members of its playing word, or one after the other along the list of tracks.
-use Prim.Native.Nat.{ℕ, zero, suc, _+_, _*_, _/_, _%_, _^_, _≤_, _<_, suc-le-suc}
+use Prim.Native.Nat.{ℕ, zero, suc, _+_, _*_, _/_, _%_, _^_, _<_, suc-le-suc}
 use mathlib.Core.Path.{_≡_, refl, sym, ap, subst, _∙_}
 use mathlib.Core.Logic.{_⊎_, inl, inr}
 use mathlib.Core.Bool.{Bool, true, false, cond}
@@ -18,6 +18,7 @@ use Rattle.board.specs.Board.{noTrack, trackAt, isPresent}
 use Rattle.board.proofs.rules.Broken.{present-bit, half-bit}
 use Rattle.board.specs.Tick.{keep, membersFrom, members, playBit, playingWord}
 use Rattle.board.specs.Replay.{Each}
+use Rattle.board.proofs.tick.PlayingLaws.{bit-small}
 use Rattle.board.specs.Quiet.{Some}
 
 -- the playing tracks of ts, the first of which has the number n; `present` is the word of those present
@@ -35,13 +36,6 @@ players n present [] = []
 players n present (t ∷ ts) = keep (playBit (present % 2) t) n (players (suc n) (present / 2) ts)
 
 -- ---- the playing word
-
-bit-small : (d : ℕ) (t : Track) → d ≤ 1 → playBit d t ≤ 1
-bit-small d t h = go (eqb (t .mode) PLAYING)
-  where
-    go : (b : Bool) → cond b d 0 ≤ 1
-    go true = h
-    go false = omega arith
 
 -- a track whose bit is set plays
 pub bit-plays : (d : ℕ) (t : Track) → 0 < playBit d t → (t .mode ≡ PLAYING) × (0 < d)
