@@ -1,10 +1,10 @@
-use Prim.Native.Nat.{ℕ, _+_}
-use Rattle.board.proofs.advance.run.Proof.Standing.{Inv-loop, μ-loop, Inv-ticks, μ-ticks, board, bits, shape, start, whole, leapable, mastered, pairs, turn, quiets, calm, fewer, leapt, ahead, whole′}
-use Rattle.board.proofs.advance.run.Proof.Standing.{all-leapt, leapt-all, short, longest, leap-at, entry, begins, begins-word, over, member, stepping, played, leads, done, few, logged, walked, full}
+use Prim.Native.Nat.{ℕ}
+use Rattle.board.proofs.advance.run.Proof.Standing.{Inv-loop, μ-loop, Inv-ticks, μ-ticks, board, bits, shape, start, whole, leapable, mastered, pairs, turn, quiets, calm, fewer, whole′}
+use Rattle.board.proofs.advance.run.Proof.Standing.{all-leapt, leapt-all, short, longest, leap-at, entry, begins, begins-word, over, step-stored, member, stepping, played, leads, done, few, logged, walked, full}
 use Rattle.board.proofs.advance.Cost.{leap-less, walk-less}
 use Rattle.board.proofs.advance.Advancing.{going-start, going-ends, going-done, boardAt, whole-points}
 use Rattle.board.proofs.quiet.Leaps.{unbroken-leapable, unbroken-infos}
-use Rattle.board.proofs.advance.Turning.{turning-start, turning-leapable, turning-store, turning-over, turning-rule}
+use Rattle.board.proofs.advance.Turning.{turning-start, turning-leapable, turning-over, turning-rule}
 use Rattle.board.proofs.advance.Judged.{played-rules, played-room}
 use Rattle.board.proofs.quiet.Bands.{leap-bands}
 use Rattle.board.proofs.follow.Rules.{unbroken-rules}
@@ -12,7 +12,6 @@ use Rattle.board.proofs.tick.Steps.{tick-follow-word}
 use Rattle.board.proofs.tick.Found.{found-rule}
 use Rattle.board.proofs.advance.run.Statement.{statement}
 use Rattle.board.proofs.advance.run.Tie as tie
-use Rattle.board.specs.Points.{key, keysOf, infosOf, infoAt}
 use Rattle.board.specs.Board.{trackAt, isPresent}
 use Rattle.board.specs.Quiet.{Leapable}
 use Rattle.board.specs.Tick.{members, playingWord, followWord, bandCount, InfoRule}
@@ -20,7 +19,6 @@ use Rattle.track.specs.declared.Track.{Track}
 use Rattle.track.specs.Rule.{Valid}
 use Rattle.track.proofs.Arrivals.{arrival-inside}
 use borrow.Author.Needs.{needs}
-use lib.Count.{trailingZeros}
 use mathlib.Core.Path.{_≡_, refl, sym, _∙_, ap, subst}
 use mathlib.Core.Bool.{true}
 use mathlib.Core.List.{List}
@@ -233,12 +231,7 @@ loop-less : tie.Need-loop-less Inv-loop μ-loop Inv-ticks μ-ticks
 loop-less c = search needs
 
 loop-again : tie.Need-loop-again Inv-loop μ-loop Inv-ticks μ-ticks
-loop-again c =
-    turning-store _ _ _ _ _ _ _ _ _ _ _ _ _ (c .before .before .before .before .before .before .before .before .before .before .before .before .before .before .before .before .before .before .loop .inv) (c .before .before .before .before .before .before .before .before .before .before .before .before .before .before .before .before .before .loop-test .taken) _ (whole-points (boardAt (board (entry (c .before .before .before .before .before .before .before .before .before .before .before .before .before .before .before .before .before .before .before))) (leapt (leap-at (c .before .before .before .before .before .before .before .before .before .before .before .before .before .before .before .before .before .before .before))) (turn (leap-at (c .before .before .before .before .before .before .before .before .before .before .before .before .before .before .before .before .before .before .before)) .before .ticks .clock + leap-at (c .before .before .before .before .before .before .before .before .before .before .before .before .before .before .before .before .before .before .before) .if2 .skipped) (turn (leap-at (c .before .before .before .before .before .before .before .before .before .before .before .before .before .before .before .before .before .before .before)) .before .ticks .held)) (ahead (leap-at (c .before .before .before .before .before .before .before .before .before .before .before .before .before .before .before .before .before .before .before)) .whole))
-    (c .before .before .before .before .before .before .before .before .before .before .before .before .before .before .before .leap .ensures)
-    (c .before .before .before .before .before .before .before .before .before .before .before .before .info-at .ensures ∙ ap (λ (l : ℕ). infoAt (key (trailingZeros 16 (c .before .before .before .before .before .before .before .before .before .before .before .before .before .before .before .before .before .before .loop .rest)) l) (keysOf (board (entry (c .before .before .before .before .before .before .before .before .before .before .before .before .before .before .before .before .before .before .before)) .points)) (infosOf (board (entry (c .before .before .before .before .before .before .before .before .before .before .before .before .before .before .before .before .before .before .before)) .points))) (c .before .before .before .before .before .before .before .before .before .before .before .before .before .before .arrival .ensures))
-    (c .before .before .before .before .before .before .before .before .before .before .step-member .ensures .0) (c .before .before .before .before .before .before .before .before .before .before .step-member .ensures .1)
-    (c .before .before .before .note .ensures .0) (c .before .before .before .note .ensures .1 .0) (c .before .before .before .note .ensures .1 .1) (c .before .needs-more .ensures)
+loop-again c = step-stored (c .before)
 
 add-t83 : tie.Need-add-t83 Inv-loop μ-loop Inv-ticks μ-ticks
 add-t83 c =
@@ -343,13 +336,10 @@ same-length-3 c = c .before .before .before .before .before .before .before .bef
 
 returns-3 : tie.Need-returns-3 Inv-loop μ-loop Inv-ticks μ-ticks
 returns-3 c =
-    let v = turning-store _ _ _ _ _ _ _ _ _ _ _ _ _ (c .before .before .before .before .before .before .before .before .before .before .before .before .before .before .before .before .before .before .loop .inv) (c .before .before .before .before .before .before .before .before .before .before .before .before .before .before .before .before .before .loop-test .taken) _ (whole-points (boardAt (board (entry (c .before .before .before .before .before .before .before .before .before .before .before .before .before .before .before .before .before .before .before))) (leapt (leap-at (c .before .before .before .before .before .before .before .before .before .before .before .before .before .before .before .before .before .before .before))) (turn (leap-at (c .before .before .before .before .before .before .before .before .before .before .before .before .before .before .before .before .before .before .before)) .before .ticks .clock + leap-at (c .before .before .before .before .before .before .before .before .before .before .before .before .before .before .before .before .before .before .before) .if2 .skipped) (turn (leap-at (c .before .before .before .before .before .before .before .before .before .before .before .before .before .before .before .before .before .before .before)) .before .ticks .held)) (ahead (leap-at (c .before .before .before .before .before .before .before .before .before .before .before .before .before .before .before .before .before .before .before)) .whole))
-    (c .before .before .before .before .before .before .before .before .before .before .before .before .before .before .before .leap .ensures)
-    (c .before .before .before .before .before .before .before .before .before .before .before .before .info-at .ensures ∙ ap (λ (l : ℕ). infoAt (key (trailingZeros 16 (c .before .before .before .before .before .before .before .before .before .before .before .before .before .before .before .before .before .before .loop .rest)) l) (keysOf (board (entry (c .before .before .before .before .before .before .before .before .before .before .before .before .before .before .before .before .before .before .before)) .points)) (infosOf (board (entry (c .before .before .before .before .before .before .before .before .before .before .before .before .before .before .before .before .before .before .before)) .points))) (c .before .before .before .before .before .before .before .before .before .before .before .before .before .before .arrival .ensures))
-    (c .before .before .before .before .before .before .before .before .before .before .step-member .ensures .0) (c .before .before .before .before .before .before .before .before .before .before .step-member .ensures .1)
-    (c .before .before .before .note .ensures .0) (c .before .before .before .note .ensures .1 .0) (c .before .before .before .note .ensures .1 .1) (c .before .needs-more .ensures) in
-    let o = over (c .before .before .before .before .before .before .before .before .before .before .before .before .before .before .before .before .before .before .before) _ (turning-over _ _ _ _ _ (begins-word (c .before .before .before .before .before .before .before .before .before .before .before .before .before .before .before .before .before .before .before)) _ _ _ _ _ _ _ _ v) in
-    full (c .before .before .before .before .before .before .before .before .before .before .before .before .before .before .before .before .before .before .before) (omega (arith, c .if6 .taken, v .steps .few-records)) (omega (arith, c .if6 .taken))
+    let g = c .before .before .before .before .before .before .before .before .before .before .before .before .before .before .before .before .before .before .before in
+    let v = step-stored (c .before) in
+    let o = over g _ (turning-over _ _ _ _ _ (begins-word g) _ _ _ _ _ _ _ _ v) in
+    full g (omega (arith, c .if6 .taken, v .steps .few-records)) (omega (arith, c .if6 .taken))
 
 same-length-4 : tie.Need-same-length-4 Inv-loop μ-loop Inv-ticks μ-ticks
 same-length-4 c = c .before .before .before .before .before .before .before .before .before .before .before .before .ticks .inv .0 .long

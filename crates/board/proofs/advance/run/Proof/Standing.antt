@@ -1,13 +1,13 @@
 -- Where the tick loop of `run` stands: its invariants, and what is known at its places.
 use Prim.Native.Nat.{ℕ, _+_, _-_, _*_, _≤_, _<_}
-use Rattle.board.proofs.advance.Advancing.{Going, going-full, going-leap, going-tick, boardAt, stageOf, go, quiet-none, steady-none, leap-is}
+use Rattle.board.proofs.advance.Advancing.{Going, going-full, going-leap, going-tick, boardAt, stageOf, whole-points, go, quiet-none, steady-none, leap-is}
 use Rattle.board.specs.Call.{world}
 use Rattle.board.specs.Advance.{Ended, turnsLeft}
 use Rattle.board.specs.declared.call.Advanced.the-variants.{Done, LogFull}
-use Rattle.board.proofs.tick.Bits.{Lowest}
+use Rattle.board.proofs.tick.Bits.{Lowest, cleared}
 use Rattle.board.proofs.rules.Broken.{unbroken-of}
 use Rattle.board.proofs.quiet.Leaps.{unbroken-leapable, leap-tracks-word, leap-tracks-zero}
-use Rattle.board.proofs.advance.Turning.{Begins, begins-before, begins-leapt, Turning, turning-member, turning-leapt, turning-more, turning-still, Played}
+use Rattle.board.proofs.advance.Turning.{Begins, begins-before, begins-leapt, Turning, turning-member, turning-leapt, turning-store, stored, turning-more, turning-still, Played}
 use Rattle.board.proofs.advance.Judged.{fewest-same, Ticked, played-judged, played-alone}
 use Rattle.board.proofs.quiet.Bands.{leap-follow-word}
 use Rattle.board.proofs.quiet.Pairs.{Mastered, unbroken-mastered, unbroken-paired}
@@ -16,7 +16,7 @@ use Rattle.board.proofs.tick.Staging.{length-log}
 use Rattle.board.proofs.log.Words.{length-write}
 use Rattle.board.specs.Log.{writeAt, recordWidth, logBytes, capacity}
 use Rattle.board.proofs.advance.run.Tie as tie
-use Rattle.board.specs.Points.{keysOf, infosOf, trackCount}
+use Rattle.board.specs.Points.{key, keysOf, infosOf, infoAt, trackCount}
 use Rattle.board.specs.Replay.{Each}
 use Rattle.board.specs.Steady.{SteadyFor}
 use Rattle.board.specs.Quiet.{QuietFor, masterOf, Fewest, WithMaster, CanLeap, Leapable, leapTracks, leapInto}
@@ -26,6 +26,7 @@ use Rattle.board.specs.Tick.{Stage, playingWord, followWord, members, ti
 use Rattle.track.specs.declared.Track.{Track}
 use Rattle.track.specs.Rule.{clockEnd}
 use borrow.Author.Needs.{needs}
+use lib.Count.{trailingZeros}
 use lib.ListN.{length}
 use mathlib.Core.List.{List, []}
 use mathlib.Core.Bool.{true, true≢false}
@@ -240,6 +241,31 @@ member c = turning-member _ _ _ _ _ _ _ _ _ _ _ _ _ (c .before .loop .inv) (c .l
 -- its track, leapt
 pub stepping : (c : tie.After-leap Inv-loop μ-loop Inv-ticks μ-ticks) → CanLeap (c .leap .result)
 stepping c = subst CanLeap (sym (c .leap .ensures)) (turning-leapt _ _ _ _ _ _ _ _ _ _ _ _ _ (c .before .before .before .loop .inv) (c .before .before .loop-test .taken))
+
+-- a member is stepped: its fields stored, its records staged, its point noted
+pub step-stored : (c : tie.After-needs-more Inv-loop μ-loop Inv-ticks μ-ticks) →
+    let n = c .before .before .note in
+    let r = c .before .before .before .before .before .before .before .before .before .step-member in
+    let l = c .before .before .before .before .before .before .before .before .before .before .before .before .before .before .before .before .before .loop in
+    let g = c .before .before .before .before .before .before .before .before .before .before .before .before .before .before .before .before .before .before in
+    let s = entry g .args in
+    let k = turn (leap-at g) .before .ticks in
+    Turning (parts (s .present) (s .keys .now) (s .infos .now) (s .n)) (g .if4 .tracks) (k .clock + leap-at g .if2 .skipped) (k .word) (g .if4 .skipped)
+    (r .last .1 .1 .1 .1 .1 .0) (n .last .0) (stored (l .tracks) (trailingZeros 16 (l .rest)) (r .result)) (cleared (l .rest)) (l .left - 1) (r .result .count) (n .result)
+    (c .needs-more .result)
+step-stored c =
+    let n = c .before .before .note in
+    let r = c .before .before .before .before .before .before .before .before .before .step-member in
+    let l = c .before .before .before .before .before .before .before .before .before .before .before .before .before .before .before .before .before .loop in
+    let g = c .before .before .before .before .before .before .before .before .before .before .before .before .before .before .before .before .before .before in
+    let j = leap-at g in
+    let points = board (entry g) .points in
+    let k = turn j .before .ticks in
+    turning-store _ _ _ _ _ _ _ _ _ _ _ _ _ (l .inv) (c .before .before .before .before .before .before .before .before .before .before .before .before .before .before .before .before .loop-test .taken) _
+    (whole-points (boardAt (board (entry g)) (leapt j) (k .clock + j .if2 .skipped) (k .held)) (ahead j .whole)) (c .before .before .before .before .before .before .before .before .before .before .before .before .before .before .leap .ensures)
+    (c .before .before .before .before .before .before .before .before .before .before .before .info-at .ensures
+    ∙ ap (λ (a : ℕ). infoAt (key (trailingZeros 16 (l .rest)) a) (keysOf points) (infosOf points)) (c .before .before .before .before .before .before .before .before .before .before .before .before .before .arrival .ensures))
+    (r .ensures .0) (r .ensures .1) (n .ensures .0) (n .ensures .1 .0) (n .ensures .1 .1) (c .needs-more .ensures)
 
 -- ---- the tick is worked out
 
