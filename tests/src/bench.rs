@@ -35,17 +35,28 @@ impl Begun for Library {
 /// A board that can be held against the model's, whole.
 pub trait Alike: Begun {
     fn like(&self, model: &Model) -> bool;
+
+    /// The board in the model's words.
+    fn told(&self) -> Model;
 }
 
 impl Alike for Peer {
     fn like(&self, model: &Model) -> bool {
         self.same(model)
     }
+
+    fn told(&self) -> Model {
+        self.picture()
+    }
 }
 
 impl Alike for Library {
     fn like(&self, model: &Model) -> bool {
         self.same(model)
+    }
+
+    fn told(&self) -> Model {
+        self.picture()
     }
 }
 

@@ -31,7 +31,7 @@ fn band<B: Begun>(bench: &mut Bench<B>) -> i64 {
     shown(bench, 1).band
 }
 
-fn ticks<B: Begun>(bench: &mut Bench<B>, count: u32) {
+pub fn ticks<B: Begun>(bench: &mut Bench<B>, count: u32) {
     assert_eq!(bench.call(Advance(count.into())), Done(count));
 }
 

@@ -4,6 +4,7 @@
 mod cut;
 mod pairs;
 mod plan;
+mod turns;
 
 use crate::call::{Board, Call, Reply};
 use crate::model::{CLOCK_END, COUNT_MOST, Model};
@@ -68,6 +69,8 @@ pub fn case(profile: Profile, seed: u64) -> Case {
         Profile::SmallLog if rng.chance(60) => rng.between(0, 80),
         Profile::Followers if rng.chance(25) => rng.between(0, 80),
         Profile::Followers if rng.chance(60) => rng.between(5, 30) * 16 + rng.between(0, 15),
+        Profile::Turns if rng.chance(15) => rng.between(0, 80),
+        Profile::Turns if rng.chance(25) => rng.between(5, 14) * 16 + rng.between(0, 15),
         Profile::SmallLog => rng.between(5, 14) * 16 + rng.between(0, 15),
         _ => rng.between(20, 400) * 16 + rng.between(0, 15),
     };
@@ -111,6 +114,10 @@ impl Maker {
         for _ in 0..self.plan.calls {
             if self.by_chance(|followers| followers.moves) {
                 self.move_at_one_go();
+                continue;
+            }
+            if self.rng.chance(self.plan.turns) {
+                self.turn_on_an_end();
                 continue;
             }
             let call = self.draw();
@@ -194,6 +201,9 @@ impl Maker {
     fn position(&mut self, t: i64) -> i64 {
         let Track { min, max, start, end, position, .. } =
             self.board.track(t).copied().unwrap_or(Track::new(-BOUND, BOUND));
+        if self.rng.chance(self.plan.ends) {
+            return self.rng.pick(&[start, end]);
+        }
         match self.rng.between(0, 9) {
             0 => self.rng.pick(&[start, end]),
             1 => position + self.rng.between(-1, 1),

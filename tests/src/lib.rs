@@ -1,5 +1,5 @@
-//! A second model of 01 (the GridStep sequence board) and of 02's followers, a leaping peer, the proved library, and lists of calls
-//! to compare them by.
+//! A second model of 01 (the GridStep sequence board) with 02's followers and turns, a leaping peer, the proved library, and
+//! lists of calls to compare them by.
 
 pub mod against;
 pub mod bench;
@@ -18,3 +18,4 @@ pub mod script;
 pub mod ticks;
 pub mod track;
 pub mod traps;
+pub mod turns;

@@ -3,6 +3,7 @@
 use crate::call::{Board, Call, Reply};
 use crate::model::{COUNT_MOST, Model};
 use crate::record::RECORD;
+use crate::track::{PAUSED, Track};
 
 /// The replay: its own board, log and row of all records written. The model goes by single ticks.
 pub struct Replay {
@@ -106,27 +107,49 @@ pub fn merged(calls: &[Call]) -> Option<Vec<Call>> {
     Some(list)
 }
 
-/// How often each answer's kind, each refusal and each kind of record came.
+/// What a call finds on the model's board: the count held, and the track that it turns.
+pub struct Found {
+    held: usize,
+    turned: Option<(i64, Track)>,
+}
+
+impl Found {
+    pub fn by(call: Option<Call>, board: &Model) -> Found {
+        let turned = match call {
+            Some(Call::Direction(t, _)) => board.track(t).map(|track| (t, *track)),
+            _ => None,
+        };
+        Found { held: board.held as usize, turned }
+    }
+
+    /// For a flip of a PAUSED track: whether it set due (2.3).
+    pub fn flip(&self, left: &Model) -> Option<bool> {
+        let (t, before) = self.turned?;
+        let after = left.track(t)?;
+        let flipped = before.mode == PAUSED && before.direction != after.direction;
+        flipped.then_some(before.due == 0 && after.due == 1)
+    }
+}
+
+/// How often each answer's kind, each refusal and each kind of record came, and how often PAUSED tracks were flipped.
 #[derive(Debug, Default)]
 pub struct Tally {
     pub kinds: [u32; 9],
     pub refusals: [u32; 11],
     pub records: [u32; 5],
+    /// flips that left due as it was, and flips that set it
+    pub flips: [u32; 2],
 }
 
 impl Tally {
-    pub fn note(&mut self, reply: Reply, records: &[[u8; RECORD]]) {
+    /// A call's answer, with the board and the log that it left.
+    pub fn note(&mut self, found: &Found, reply: Reply, left: &Model, log: &[u8]) {
         let row = reply.encode();
         self.kinds[row[0] as usize] += 1;
         self.refusals[if row[0] == 1 { row[1] as usize } else { 0 }] += 1;
+        let records = written(log, found.held, left.held as usize);
         records.iter().for_each(|bytes| self.records[bytes[5] as usize] += 1);
-    }
-
-    pub fn add(&mut self, other: &Tally) {
-        let sum = |all: &mut [u32], more: &[u32]| all.iter_mut().zip(more).for_each(|(n, m)| *n += m);
-        sum(&mut self.kinds, &other.kinds);
-        sum(&mut self.refusals, &other.refusals);
-        sum(&mut self.records, &other.records);
+        found.flip(left).iter().for_each(|&set_due| self.flips[usize::from(set_due)] += 1);
     }
 
     /// Every answer's kind came, every kind of record up to the last named, and each of these refusals.

@@ -1,4 +1,5 @@
-//! The board of 01 with 02's followers (2.1) in plain Rust: single ticks, nothing leapt, every number an i64.
+//! The board of 01 with 02's followers (2.1) and turns (2.3) in plain Rust: single ticks, nothing leapt, every number an
+//! i64.
 //! "Decision n" is an entry of docs/DECISIONS.md, where 01 leaves a point open.
 
 mod stage;
@@ -212,10 +213,15 @@ impl Board for Model {
             STANDING,
             |_| flag(d),
             |track| {
+                let flips = track.direction != d;
                 track.direction = d;
                 // Decision 6: rewinds even with the same value.
                 if track.mode == STOPPED {
                     track.rewind();
+                }
+                // 2.3: "flips a PAUSED, visited track standing on its new far position".
+                if flips && track.mode == PAUSED && track.due == 0 && track.position == track.far() {
+                    track.due = 1;
                 }
             },
         )

@@ -1,4 +1,5 @@
-//! The peer: the board of 01, with 02's followers, in fixed-size arrays and sorted point keys, whose advance leaps (`run`).
+//! The peer: the board of 01, with 02's followers and turns, in fixed-size arrays and sorted point keys, whose advance
+//! leaps (`run`).
 //! It behaves as the model does and is what speed is measured against.
 
 mod pair;
@@ -298,7 +299,8 @@ impl Board for Peer {
 
     fn direction(&mut self, t: i64, d: i64) -> Reply {
         self.change(t, STANDING, |track| {
-            let turned = Track { backward: between(d, 0, 1)? == 1, ..track };
+            let backward = between(d, 0, 1)? == 1;
+            let turned = Track { backward, due: track.due || track.closes(backward), ..track };
             Some(if track.mode == STOPPED { turned.rewound() } else { turned })
         })
     }

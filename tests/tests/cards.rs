@@ -1,10 +1,10 @@
 //! Bench cards A to L of 01 on the model and the peer; then both on lists of calls, and lists cut anew.
 
-use gridstep_tests::bench::Begun;
-use gridstep_tests::call::{Board, Call, Call::Advance, Reply::Done};
+use gridstep_tests::against;
+use gridstep_tests::call::{Call, Call::Advance, Reply::Done};
 use gridstep_tests::cards;
 use gridstep_tests::gen::{Case, PROFILES, Profile, case, recut};
-use gridstep_tests::lists::{Replay, Seen, Tally, in_run, merged, observed, written};
+use gridstep_tests::lists::{Replay, Seen, Tally, in_run, merged, observed};
 use gridstep_tests::model::Model;
 use gridstep_tests::peer::Peer;
 use gridstep_tests::record::{POINT, Record};
@@ -20,28 +20,12 @@ fn lists(profile: Profile) -> u64 {
     if profile == Profile::Full { 250 } else { 1000 }
 }
 
-/// Model and peer on one list: after each call the answer, the whole board and every log byte.
-fn compare(name: &str, case: &Case, tally: &mut Tally) {
-    let (mut model, mut peer) = (Model::begun(case.clock), Peer::begun(case.clock));
-    let (mut log, mut peer_log) = (case.log.clone(), case.log.clone());
-    for (nth, &call) in case.calls.iter().enumerate() {
-        let place = || format!("{name}, call {nth}: {call:?}");
-        let before = model.held as usize;
-        let reply = model.apply_encoded(&call.encode(), &mut log);
-        assert_eq!(peer.apply(call, &mut peer_log).encode(), reply.encode(), "{}", place());
-        assert!(peer.same(&model), "{}: {:?}\n{:?}", place(), peer.picture(), model);
-        assert!(log == peer_log, "{}", place());
-        assert!(model.unbroken(), "{}", place());
-        tally.note(reply, written(&log, before, model.held as usize));
-    }
-}
-
 #[test]
 fn lists_agree() {
     let mut tally = Tally::default();
     for profile in PROFILES {
         for seed in 0..lists(profile) {
-            compare(&format!("{profile:?} list {seed}"), &case(profile, seed), &mut tally);
+            against::side_by_side::<Peer>(&format!("{profile:?} list {seed}"), &case(profile, seed), &mut tally);
         }
         println!("up to {profile:?}: {tally:?}");
     }
@@ -49,6 +33,7 @@ fn lists_agree() {
     assert!(tally.records[1..].iter().all(|&number| number > 1000));
     // 7 and 9 cannot come in a list with one log: see rules.rs.
     assert!([1, 2, 3, 4, 5, 6, 8, 10].iter().all(|&number| tally.refusals[number] > 500));
+    assert!(tally.flips.iter().all(|&number| number > 5000));
 }
 
 fn replayed(case: &Case, calls: &[Call]) -> (Vec<Seen>, Replay) {

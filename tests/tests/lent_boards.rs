@@ -186,7 +186,7 @@ fn altered_boards_agree() {
     let (mut stood, mut broken) = (0, 0);
     for seed in 0..4000 {
         let mut rng = Rng(seed);
-        let profile = [Profile::Dense, Profile::Followers, Profile::Typical][seed as usize % 3];
+        let profile = [Profile::Dense, Profile::Followers, Profile::Typical, Profile::Turns][seed as usize % 4];
         let case = case(profile, seed % 60);
         let (mut library, mut log) = (Library::begun(case.clock), case.log);
         for call in case.calls {

@@ -1,19 +1,20 @@
 //! The proved library against the single-tick model on lists of calls: lent calls, the door, encoded lists, new cuts.
 //! GRIDSTEP_LISTS is the number of lists over all profiles.
 
-use gridstep_tests::against;
+use gridstep_tests::against::{self, Told, cut_anew, total};
 use gridstep_tests::bench::{Begun, FILL};
 use gridstep_tests::call::{Board, CALL_WIDTH, Call, Call::Advance, REPLY_WIDTH, Reply};
 use gridstep_tests::cards;
 use gridstep_tests::followers;
-use gridstep_tests::gen::{Case, PROFILES, Profile, Rng, case, recut};
+use gridstep_tests::gen::{Case, PROFILES, Profile, Rng, case};
 use gridstep_tests::library::Library;
-use gridstep_tests::lists::{Tally, merged, observed, written};
+use gridstep_tests::lists::{Found, Tally};
 use gridstep_tests::model::Model;
 use gridstep_tests::record::{BAND, REFUSED_COMMAND};
 use gridstep_tests::refused;
 use gridstep_tests::ticks;
 use gridstep_tests::traps;
+use gridstep_tests::turns;
 
 macro_rules! on_library {
     ($($module:ident: $($name:ident)*;)*) => { $($(#[test] fn $name() { $module::$name::<Library>(); })*)* };
@@ -26,14 +27,17 @@ on_library! {
     followers: exceeded idle_board follower_moves mode_calls_leave_it behind_commands commands_leave_it turning held_back
         rings setting in_step unequal_spans;
     ticks: sixty_four alike stretches narrow_logs;
+    turns: turned_on_home turned_after_a_pass turned_for_the_last_pass turned_on_a_wait turned_on_a_command
+        turned_without_room other_turns turned_unvisited turned_twice turned_in_other_modes turned_on_two_locations
+        turned_over_the_clock turned_master turned_follower;
     refused: in_order of_any_length by_rows lent_boards;
 }
 
 /// Lists of this file begin at this seed, so that they are no other file's.
 const SEED: u64 = 1_000_000;
-const LISTS: u64 = 20_000;
-/// Of a hundred lists, by profile; long lists are fewer. Lists of followers come on top, as many as all the others.
-const SHARES: [u64; 8] = [19, 6, 19, 18, 19, 18, 100, 1];
+/// Of a hundred lists, by profile; long lists are fewer. Lists of followers come on top, as many as all the others, and
+/// half as many of turns.
+const SHARES: [u64; 9] = [19, 6, 19, 18, 19, 18, 100, 50, 1];
 /// Rows that are no call's begin with these: other codes, and a master call with a negative number of pairs.
 const NO_CALLS: [[i64; 4]; 10] = [
     [0, 0, 1, 1],
@@ -47,11 +51,6 @@ const NO_CALLS: [[i64; 4]; 10] = [
     [21, 0, 1, -1],
     [21, 0, 1, i64::MIN],
 ];
-
-/// Lists of all profiles.
-fn total() -> u64 {
-    std::env::var("GRIDSTEP_LISTS").map_or(LISTS, |number| number.parse().expect("GRIDSTEP_LISTS: a number"))
-}
 
 fn share(profile: Profile) -> u64 {
     (total() * SHARES[profile as usize]).div_ceil(100)
@@ -82,33 +81,25 @@ fn rows_of(calls: &[Call], rng: &mut Rng) -> Vec<[i64; CALL_WIDTH]> {
     rows
 }
 
-/// The model's way through rows: what the library's ways are held against.
-struct Told {
-    replies: Vec<Reply>,
-    board: Model,
-    log: Vec<u8>,
-    tally: Tally,
-}
-
 /// Model, lent calls and door on one list: after each call the answer, the whole board and every log byte.
-fn side_by_side(name: &str, case: &Case, rows: &[[i64; CALL_WIDTH]]) -> Told {
+fn side_by_side(name: &str, case: &Case, rows: &[[i64; CALL_WIDTH]], tally: &mut Tally) -> Told {
     let mut board = Model::begun(case.clock);
     let (mut lent, mut door) = (Library::begun(case.clock), Library::begun(case.clock));
     let [mut log, mut lent_log, mut door_log] = [case.log.clone(), case.log.clone(), case.log.clone()];
-    let (mut replies, mut tally) = (Vec::new(), Tally::default());
+    let mut replies = Vec::new();
     for (nth, row) in rows.iter().enumerate() {
         let place = || format!("{name}, row {nth}: {row:?}, {:?}", Call::decode(row));
-        let before = board.held as usize;
+        let found = Found::by(Call::decode(row), &board);
         let reply = board.apply_encoded(row, &mut log);
         assert_eq!(lent.apply_encoded(row, &mut lent_log).encode(), reply.encode(), "lent: {}", place());
         assert_eq!(door.by_row(row, &mut door_log), reply.encode(), "door: {}", place());
         assert!(lent.same(&board), "lent: {}: {:?}\n{board:?}", place(), lent.picture());
         assert!(door == lent, "door: {}: {:?}\n{board:?}", place(), door.picture());
         assert!(lent_log == log && door_log == log, "log: {}", place());
-        tally.note(reply, written(&log, before, board.held as usize));
+        tally.note(&found, reply, &board, &log);
         replies.push(reply);
     }
-    Told { replies, board, log, tally }
+    Told { replies, board, log }
 }
 
 /// The encoded list: all replies, the end board and every log byte. Idle ticks bring a board to its clock.
@@ -124,20 +115,6 @@ fn encoded(name: &str, case: &Case, rows: &[[i64; CALL_WIDTH]], told: &Told) {
     assert!(log == told.log, "{name}: the list's log");
 }
 
-/// The list with its runs cut anew: what is seen of it, the end board and every log byte.
-fn cut_anew(name: &str, case: &Case, told: &Told, seed: u64) -> bool {
-    let calls = recut(&case.calls, seed);
-    assert_eq!(merged(&calls), merged(&case.calls));
-    let (mut library, mut log) = (Library::begun(case.clock), case.log.clone());
-    let replies: Vec<Reply> = calls.iter().map(|&call| library.apply(call, &mut log)).collect();
-    // Rows that are no calls are refused 9 and stand in no list.
-    let of_calls: Vec<Reply> = told.replies.iter().filter(|&&reply| reply != Reply::Refused(9)).copied().collect();
-    assert_eq!(observed(&calls, &replies), observed(&case.calls, &of_calls), "{name}: cut anew");
-    assert!(library.same(&told.board), "{name}: cut anew: {:?}\n{:?}", library.picture(), told.board);
-    assert!(log == told.log, "{name}: cut anew: log");
-    calls != case.calls
-}
-
 /// How much was compared.
 #[derive(Debug, Default)]
 struct Compared {
@@ -150,10 +127,9 @@ struct Compared {
 impl Compared {
     fn list(&mut self, name: &str, case: &Case, seed: u64) {
         let rows = rows_of(&case.calls, &mut Rng(seed));
-        let told = side_by_side(name, case, &rows);
+        let told = side_by_side(name, case, &rows, &mut self.tally);
         encoded(name, case, &rows, &told);
-        self.cut_anew += u64::from(cut_anew(name, case, &told, seed));
-        self.tally.add(&told.tally);
+        self.cut_anew += u64::from(cut_anew::<Library>(name, case, &told, seed));
         self.calls += rows.len();
         self.lists += 1;
     }
@@ -170,6 +146,8 @@ fn lists_agree(profile: Profile) {
     refusals.extend((profile == Profile::Full).then_some(5));
     refusals.extend(profile.has_masters().then_some(10));
     compared.tally.assert_whole(if profile.has_masters() { BAND } else { REFUSED_COMMAND }, &refusals);
+    let flips = if profile == Profile::Turns { 2 * compared.lists } else { 0 };
+    assert!(compared.tally.flips.iter().all(|&times| u64::from(times) > flips), "too few turns: {:?}", compared.tally);
 }
 
 macro_rules! profiles {
@@ -184,6 +162,7 @@ profiles! {
     lists_extremes: Extremes;
     lists_queries: Queries;
     lists_followers: Followers;
+    lists_turns: Turns;
     lists_full: Full;
 }
 
@@ -192,9 +171,9 @@ profiles! {
 fn every_small_log() {
     let mut compared = Compared::default();
     for length in 0..=130 {
-        let profiles = [Profile::Typical, Profile::Dense, Profile::Edges, Profile::Followers];
-        for (nth, profile) in (0..12).zip(profiles.into_iter().cycle()) {
-            let seed = 2 * SEED + length * 12 + nth;
+        let profiles = [Profile::Typical, Profile::Dense, Profile::Edges, Profile::Followers, Profile::Turns];
+        for (nth, profile) in (0..15).zip(profiles.into_iter().cycle()) {
+            let seed = 2 * SEED + length * 15 + nth;
             let Case { clock, mut log, mut calls } = case(profile, seed);
             log.truncate(length as usize);
             calls.iter_mut().for_each(|call| *call = if let Advance(201..) = call { Advance(200) } else { *call });
@@ -234,7 +213,7 @@ fn ragged(name: &str, case: &Case, rng: &mut Rng) -> usize {
     let length = rng.between(0, (CALL_WIDTH * calls.len()) as i64) as usize;
     let room = rng.between(0, 4 * length as i64 + 60) as usize;
     let rows = (length / CALL_WIDTH).min(room / REPLY_WIDTH);
-    let told = side_by_side(name, case, &calls[..rows]);
+    let told = side_by_side(name, case, &calls[..rows], &mut Tally::default());
     let (mut log, mut replies, mut expected) = (case.log.clone(), vec![u64::MAX; room], vec![u64::MAX; room]);
     let (places, _) = expected.as_chunks_mut();
     places.iter_mut().zip(&told.replies).for_each(|(place, reply)| *place = reply.encode());
@@ -247,7 +226,7 @@ fn ragged(name: &str, case: &Case, rng: &mut Rng) -> usize {
 #[test]
 fn ragged_lists() {
     let (mut lists, mut calls) = (0, 0);
-    for (seed, profile) in (3 * SEED..3 * SEED + total() / 10).zip(PROFILES[..7].iter().cycle()) {
+    for (seed, profile) in (3 * SEED..3 * SEED + total() / 10).zip(PROFILES[..8].iter().cycle()) {
         let case = case(*profile, seed);
         if case.clock == 0 {
             calls += ragged(&format!("{profile:?} list {seed}"), &case, &mut Rng(seed));

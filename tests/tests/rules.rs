@@ -5,6 +5,7 @@ use gridstep_tests::bench::{Begun, Bench};
 use gridstep_tests::call::Reply::Refused;
 use gridstep_tests::call::{Board, CALL_WIDTH, Call, Call::*};
 use gridstep_tests::gen::{PROFILES, Profile, Rng, case};
+use gridstep_tests::lists::Found;
 use gridstep_tests::model::{self, Model};
 use gridstep_tests::peer::Peer;
 use gridstep_tests::record::Record;
@@ -123,10 +124,10 @@ fn mutate(peer: &mut Peer, rng: &mut Rng) {
 /// Lent boards with a field altered: the same answer, board and log as the model's, broken or not.
 #[test]
 fn altered_boards_agree() {
-    let (mut whole, mut broken) = (0, 0);
-    for seed in 0..3000 {
+    let (mut whole, mut broken, mut flips) = (0, 0, [0; 2]);
+    for seed in 0..4000 {
         let mut rng = Rng(seed);
-        let profile = [Profile::Dense, Profile::Followers, Profile::Typical][seed as usize % 3];
+        let profile = [Profile::Dense, Profile::Followers, Profile::Typical, Profile::Turns][seed as usize % 4];
         let case = case(profile, seed % 60);
         let mut peer = Peer::begun(case.clock);
         let mut log = case.log.clone();
@@ -141,12 +142,16 @@ fn altered_boards_agree() {
         *if peer.unbroken() { &mut whole } else { &mut broken } += 1;
         if ascend {
             for call in each_call() {
-                agree(&mut peer.clone(), &mut model.clone(), call, &log);
+                let mut after = model.clone();
+                agree(&mut peer.clone(), &mut after, call, &log);
+                let flip = Found::by(Some(call), &model).flip(&after);
+                flip.iter().for_each(|&set_due| flips[usize::from(set_due)] += 1);
             }
         }
     }
-    println!("{whole} whole, {broken} broken");
+    println!("{whole} whole, {broken} broken, flips {flips:?}");
     assert!(whole > 500 && broken > 500);
+    assert!(flips.iter().all(|&times| times > 100));
 }
 
 #[test]

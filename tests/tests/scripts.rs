@@ -16,7 +16,7 @@ use std::time::Duration;
 /// Single ticks beyond this clock are too many for the model; the leaping peer is held against it up to here.
 const WITHIN_REACH: u64 = 400_000;
 /// Scripts of each kind, and lines of each.
-const SCRIPTS: u64 = 21;
+const SCRIPTS: u64 = 24;
 const LINES: i64 = 2_500;
 const PAUSE: Duration = Duration::from_micros(50);
 

@@ -12,3 +12,4 @@ pub mod FollowerCards
 pub mod RejectedFollowers
 pub mod Answers
 pub mod FullCalls
+pub mod Flips

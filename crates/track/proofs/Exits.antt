@@ -12,7 +12,7 @@ use Rattle.track.specs.declared.setup.Changed.{Changed}
 use Rattle.track.specs.Rule.{STOPPED, PAUSED, WAITING, BACKWARD, REPEATING, VISITED, DUE, clockEnd, Valid, home, far, moved, rewound, stopped, entered}
 use Rattle.track.specs.Walk.{arrival, passesAt, stops, visited, step}
 use Rattle.track.specs.Leap.{span, phase, place, next, leap, stepsTo, stopStep, running}
-use Rattle.track.specs.Setup.{refused, settled, permits, setBy, changedBy}
+use Rattle.track.specs.Setup.{refused, turned, closes, turnedTo, settled, permits, setBy, changedBy}
 use Rattle.track.proofs.Leaps.{leap-zero}
 
 module _ (t : Track) where
@@ -145,6 +145,40 @@ settled-stopped e = simp (eq-eqb _ _ e)
 pub settled-else : {m : ℕ} → (m ≡ STOPPED → ⊥) → eqb m PAUSED ≡ settled m
 unfolding settled
 settled-else n = simp (ne-eqb _ _ n)
+
+-- closes
+module _ (t : Track) (k : ℕ) where
+  pub closes-same : k ≡ t .direction → false ≡ closes t k
+  unfolding closes
+  closes-same e = simp (eq-eqb k (t .direction) e)
+
+  module _ (flips : k ≡ t .direction → ⊥) where
+    pub closes-mode : (t .mode ≡ PAUSED → ⊥) → false ≡ closes t k
+    unfolding closes
+    closes-mode n = simp (ne-eqb k (t .direction) flips, ne-eqb _ _ n)
+
+    module _ (paused : t .mode ≡ PAUSED) where
+      pub closes-due : (t .due ≡ VISITED → ⊥) → false ≡ closes t k
+      unfolding closes
+      closes-due n = simp (ne-eqb k (t .direction) flips, eq-eqb _ _ paused, ne-eqb _ _ n)
+
+      pub closes-far : {f : ℕ} → t .due ≡ VISITED → f ≡ far (turned t k) → eqb (t .position .0) f ≡ closes t k
+      unfolding closes
+      closes-far d e = simp (ne-eqb k (t .direction) flips, eq-eqb _ _ paused, eq-eqb _ _ d, e)
+
+  -- turnedTo
+  pub turned-to-rewound : {r : Track} → t .mode ≡ STOPPED → r ≡ rewound (turned t k) → r ≡ turnedTo t k
+  unfolding turnedTo
+  turned-to-rewound e q = q ∙ simp (eq-eqb _ _ e)
+
+  module _ (n : t .mode ≡ STOPPED → ⊥) {b : Bool} (e : b ≡ closes t k) {r : Track} where
+    pub turned-to-due : b ≡ true → r ≡ moved (turned t k) (t .mode) (t .position .0) (t .passes .0) DUE → r ≡ turnedTo t k
+    unfolding turnedTo
+    turned-to-due h q = q ∙ simp (ne-eqb _ _ n, ← e, h)
+
+    pub turned-to-alone : b ≡ false → r ≡ turned t k → r ≡ turnedTo t k
+    unfolding turnedTo
+    turned-to-alone h q = q ∙ simp (ne-eqb _ _ n, ← e, h)
 
 module _ (t : Track) (c : Change) {b : Bool} (e : b ≡ permits c (t .mode)) where
   pub changed-not : b ≡ false → {r : Changed} → r ≡ refused 2 t → r ≡ changedBy t c

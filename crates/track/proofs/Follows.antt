@@ -232,7 +232,7 @@ then-follower p q =
     }
 
 -- so has a track in another mode, at another position
-pub moved-follower : (t : Track) (mode position passes due : ℕ) → SameFollower t (moved t mode position passes due)
+moved-follower : (t : Track) (mode position passes due : ℕ) → SameFollower t (moved t mode position passes due)
 moved-follower t mode position passes due = record { master = refl; band = refl; thresholds = refl; events = refl }
 
 pub entered-follower : (t : Track) (m : ℕ) → SameFollower t (entered t m)

@@ -9,3 +9,4 @@ pub mod Leaps
 pub mod Modes
 pub mod Setups
 mod Exits
+pub mod Flips

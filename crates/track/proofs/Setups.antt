@@ -17,12 +17,12 @@ use Rattle.track.specs.declared.number.Place.the-variants as place
 use Rattle.track.specs.declared.setup.Change.{Change}
 use Rattle.track.specs.declared.setup.Change.the-variants as change
 use Rattle.track.specs.declared.setup.Changed.{Changed}
-use Rattle.track.specs.Rule.{STOPPED, BACKWARD, REPEATING, DUE, loopsMost, cellCount, cellMost, eventsTest, Ordered, Valid, Cells, newTrack, rewound}
+use Rattle.track.specs.Rule.{STOPPED, BACKWARD, REPEATING, DUE, loopsMost, cellCount, cellMost, eventsTest, Ordered, Valid, Cells, newTrack, moved, rewound}
 use Rattle.track.specs.Number.{naturalOf, coordinateOf, within, onNatural, onPlace}
-use Rattle.track.specs.Setup.{refused, setTo, turned, startSet, endSet, loopsSet, repeatSet, directionSet, actionSet, jumpTo, setBy, permits, changedBy}
+use Rattle.track.specs.Setup.{refused, setTo, turned, closes, turnedTo, startSet, endSet, loopsSet, repeatSet, directionSet, actionSet, jumpTo, setBy, permits, changedBy}
 use Rattle.track.proofs.Tests.{cond-cases}
 use Rattle.track.proofs.Checks.{events-of}
-use Rattle.track.proofs.Follows.{SameFollower, same-follower, moved-follower}
+use Rattle.track.proofs.Follows.{SameFollower, same-follower}
 use Rattle.track.specs.Follow.{upToZero, zerosTest, pairsTest, Follower}
 use Rattle.track.specs.declared.Ticks.{Ticks}
 use Rattle.track.proofs.Numbers.{natural-in, within-in}
@@ -173,14 +173,28 @@ module _ (t : Track) (v : Valid t) where
   unfolding repeatSet
   repeat-keeps f = on-natural (Keeps t) t f 0 1 _ (same t v) (λ k low high. set-keeps (t .loops) k (t .direction) (v .loops) high (v .direction))
 
+  -- a position of the span, and due set, leave all else
+  due-keeps : (u : Track) → Keeps t u → (l : ℕ) → (u .start .0 ≤ l) × (l ≤ u .end .0) → Keeps t (moved u (u .mode) l (u .passes .0) DUE)
+  due-keeps u k l h =
+      record {
+        valid = moved-valid u (k .valid) (u .mode) l (u .passes .0) DUE (k .valid .mode) (omega arith) h;
+        min = k .min;
+        max = k .max;
+        mode = k .mode;
+        passes = k .passes;
+        follower =
+            record { master = k .follower .master; band = k .follower .band; thresholds = k .follower .thresholds; events = k .follower .events };
+      }
+
   direction-keeps : (d : ℤ) → Keeps t (directionSet t d .track)
-  unfolding directionSet
+  unfolding directionSet turnedTo
   direction-keeps d =
       on-natural (Keeps t) t d 0 1 _ (same t v)
-      (λ k low high. cond-cases (Keeps t) (eqb (t .mode) STOPPED)
+      (λ k low high. let u = set-keeps (t .loops) (t .repeat) k (v .loops) (v .repeat) high in
+      cond-cases (Keeps t) (eqb (t .mode) STOPPED)
       (λ _. spanned (turned t k) (rewound-valid (t .start) (t .end) k high (omega arith) (omega arith) (omega arith)) refl refl refl
       (rewound-follower (t .start) (t .end) (t .loops) (t .repeat) k))
-      (λ _. set-keeps (t .loops) (t .repeat) k (v .loops) (v .repeat) high))
+      (λ _. cond-cases (Keeps t) (closes t k) (λ _. due-keeps (turned t k) u (t .position .0) (omega arith)) (λ _. u)))
 
   action-keeps : (from to event : ℤ) → Keeps t (actionSet t from to event .track)
   unfolding actionSet
@@ -211,7 +225,7 @@ module _ (t : Track) (v : Valid t) where
   unfolding jumpTo
   jump-keeps p =
       on-place (Keeps t) t (t .start .0) (t .end .0) (coordinateOf p) _ (same t v)
-      (λ c low high. record { valid = moved-valid t v (t .mode) (c .0) (t .passes .0) DUE (v .mode) (omega arith) (low, high); min = refl; max = refl; mode = refl; passes = omega arith; follower = moved-follower t (t .mode) (c .0) (t .passes .0) DUE })
+      (λ c low high. due-keeps t (same t v) (c .0) (low, high))
 
   -- no set-up change breaks a rule of a track, moves its bounds or its mode, or adds a pass
   pub changed-keeps : (c : Change) → Keeps t (changedBy t c .track)

@@ -4,4 +4,5 @@ pub mod Grid
 pub mod Walk
 pub mod Leap
 pub mod Setup
+pub mod Flip
 pub mod Follow

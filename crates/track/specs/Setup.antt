@@ -1,10 +1,10 @@
 -- The set-up changes of a track, as far as the track alone decides them (01, "Other calls" and "Turned down").
-use Prim.Native.Nat.{ℕ, _+_, _-_, _*_}
-use mathlib.Core.Bool.{Bool, cond, _||_}
+use Prim.Native.Nat.{ℕ, _+_, _*_}
+use mathlib.Core.Bool.{Bool, cond, not, _&&_, _||_}
 use lib.ListN.{set}
 use lib.IntN.{ℤ}
 use lib.Dec.{eqb, ltb}
-use Rattle.track.specs.Rule.{STOPPED, PAUSED, DUE, loopsMost, cellMost, moved, rewound}
+use Rattle.track.specs.Rule.{STOPPED, PAUSED, VISITED, DUE, loopsMost, cellMost, far, moved, rewound}
 use Rattle.track.specs.Number.{naturalOf, coordinateOf, within, onNatural, onPlace}
 use Rattle.track.specs.declared.Track.{Track}
 use Rattle.track.specs.declared.Coordinate.{Coordinate}
@@ -101,14 +101,27 @@ unfoldable pub repeatSet : Track → ℤ → Changed
 repeatSet t f =
     onNatural (naturalOf f 0 1) (λ k. accepted (setTo t (t .start) (t .end) (t .loops) k (t .direction))) (refused 3 t)
 
--- a direction, 0 forward, 1 backward: when STOPPED it rewinds by the new one; when PAUSED nothing else changes
+-- the track with another direction alone
 abbrev pub turned : Track → ℕ → Track
 turned t direction = setTo t (t .start) (t .end) (t .loops) (t .repeat) direction
 
+-- "flips a PAUSED, visited track standing on its new far position" (02, 2.3)
+unfoldable pub closes : Track → ℕ → Bool
+closes t direction =
+    not (eqb direction (t .direction))
+    && eqb (t .mode) PAUSED
+    && eqb (t .due) VISITED
+    && eqb (t .position .0) (far (turned t direction))
+
+-- when STOPPED it rewinds by the new direction; when PAUSED such a flip sets due, and nothing else changes
+unfoldable pub turnedTo : Track → ℕ → Track
+turnedTo t direction =
+    let u = turned t direction in
+    cond (eqb (t .mode) STOPPED) (rewound u) (cond (closes t direction) (moved u (u .mode) (u .position .0) (u .passes .0) DUE) u)
+
+-- a direction, 0 forward, 1 backward
 unfoldable pub directionSet : Track → ℤ → Changed
-directionSet t d =
-    onNatural (naturalOf d 0 1)
-    (λ k. accepted (cond (eqb (t .mode) STOPPED) (rewound (turned t k)) (turned t k))) (refused 3 t)
+directionSet t d = onNatural (naturalOf d 0 1) (λ k. accepted (turnedTo t k)) (refused 3 t)
 
 -- an action (from ≠ to; event 0 to 255)
 unfoldable pub actionSet : Track → ℤ → ℤ → ℤ → Changed

@@ -5,7 +5,7 @@ use crate::number::Natural;
 use crate::number::Place;
 use crate::number::in_range;
 ghost use mathlib.Core.Path.{_≡_};
-ghost use Rattle.track.specs.Setup.{refused, accepted, settled, permits, startSet, endSet, loopsSet, repeatSet, directionSet, actionSet, jumpTo, changedBy};
+ghost use Rattle.track.specs.Setup.{refused, accepted, settled, permits, startSet, endSet, loopsSet, repeatSet, closes, turnedTo, directionSet, actionSet, jumpTo, changedBy};
 
 // A set-up change with the numbers of its call.
 pub enum Change {
@@ -168,20 +168,47 @@ impl Track {
         accepted(next)
     }
 
-    // The direction is set; a STOPPED track rewinds by the new one.
+    // Whether turning it this way flips a PAUSED, visited track that stands on its new far position: it has a pass to close there.
+    fn closes(self, direction: u8) -> bool
+        ensures { λ r. ⌜ r ≡ closes self direction ⌝ }
+    {
+        if direction == self.direction {
+            return false;
+        }
+        if self.mode != Track::PAUSED {
+            return false;
+        }
+        if self.due != Track::VISITED {
+            return false;
+        }
+        let mut turned = self;
+        turned.direction = direction;
+        let far = turned.far();
+        self.position.0 == far.0
+    }
+
+    // The track turned: a STOPPED one rewinds by the new direction, a PAUSED one with a pass to close becomes due.
+    fn turned(self, direction: u8) -> Track
+        ensures { λ r. ⌜ r ≡ turnedTo self direction ⌝ }
+    {
+        let mut next = self;
+        next.direction = direction;
+        if self.mode == Track::STOPPED {
+            return next.rewound();
+        }
+        if self.closes(direction) {
+            return next.moved(next.mode, next.position, next.passes, Track::DUE);
+        }
+        next
+    }
+
     fn set_direction(self, d: i64) -> Changed
         ensures { λ r. ⌜ r ≡ directionSet self d ⌝ }
     {
         let Natural::In(k) = in_range(d, 0, 1) else {
             return refused(Answer::VALUE, self);
         };
-        let mode = self.mode;
-        let mut next = self;
-        next.direction = k as u8;
-        if mode == Track::STOPPED {
-            return accepted(next.rewound());
-        }
-        accepted(next)
+        accepted(self.turned(k as u8))
     }
 
     // The event of a change from one mode to another is set; 0 clears it.

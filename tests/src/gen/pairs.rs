@@ -1,12 +1,9 @@
 //! What followers add to lists: master calls, and moves of a track at one go.
 
-use super::plan::Followers;
+use super::plan::{Followers, NEAR};
 use super::{Call, Maker};
 use crate::call::Pairs;
 use crate::track::{DRIFT_MOST, STOPPED};
-
-/// Thresholds are mostly from 1 to this, which no drift of short spans exceeds.
-const NEAR: i64 = 12;
 
 impl Maker {
     /// With the chance that lists of followers give; never in others.
@@ -53,7 +50,8 @@ impl Maker {
     /// Pairs of threshold and event: none to six, of which a call keeps five; mostly rising.
     fn pairs(&mut self) -> Pairs {
         let count = self.rng.pick(&[0, 1, 1, 2, 2, 2, 3, 3, 4, 4, 5, 6]);
-        let most = if self.rng.chance(6) { DRIFT_MOST } else { NEAR };
+        let near = self.plan.followers.as_ref().map_or(NEAR, |followers| followers.near);
+        let most = if self.rng.chance(6) { DRIFT_MOST } else { near };
         let mut thresholds: Vec<i64> = (0..count).map(|_| self.number(1, most)).collect();
         if self.rng.chance(92) {
             thresholds.sort_unstable();

@@ -14,6 +14,8 @@ pub enum Profile {
     Queries,
     /// few tracks of short spans that follow each other, often in step
     Followers,
+    /// few tracks of two to five locations, turned right behind an arrival on home or far
+    Turns,
     /// about 256 points
     Full,
 }
@@ -26,7 +28,7 @@ impl Profile {
 }
 
 /// Full, whose lists are long, is the last.
-pub const PROFILES: [Profile; 8] = [
+pub const PROFILES: [Profile; 9] = [
     Profile::Typical,
     Profile::Dense,
     Profile::Edges,
@@ -34,6 +36,7 @@ pub const PROFILES: [Profile; 8] = [
     Profile::Extremes,
     Profile::Queries,
     Profile::Followers,
+    Profile::Turns,
     Profile::Full,
 ];
 
@@ -56,12 +59,18 @@ pub struct Plan {
     /// master calls in a hundred set-up calls
     pub masters: i64,
     pub followers: Option<Followers>,
+    /// draws in a hundred that are a track's way to home or far and its turn there
+    pub turns: i64,
+    /// positions in a hundred that are home or far, whatever else is drawn
+    pub ends: i64,
     /// the most ticks of an advance that nothing stops
     pub large: i64,
 }
 
-/// What only lists of followers have, in a hundred.
+/// What only lists with many followers have; in a hundred, but for near.
 pub struct Followers {
+    /// most thresholds are from 1 to this
+    pub near: i64,
     /// tracks whose span has the list's one length
     pub alike: i64,
     /// tracks that name a master, and that repeat, in the set-up
@@ -73,45 +82,64 @@ pub struct Followers {
     pub clears: i64,
 }
 
-pub fn plan(profile: Profile) -> Plan {
-    let usual = Plan {
-        tracks: 5,
-        points: 16,
-        reach: 12,
-        actions: 4,
-        calls: 50,
-        wild: 2,
-        extremes: false,
-        weights: [20, 25, 40, 2, 5],
-        masters: 0,
-        followers: None,
-        large: LARGE,
-    };
-    let followers = Followers { alike: 50, led: 85, repeats: 60, moves: 12, clears: 40 };
-    match profile {
-        Profile::Typical => usual,
-        Profile::Dense => {
-            Plan { tracks: 22, points: 90, reach: 4, actions: 12, weights: [8, 30, 50, 4, 2], masters: 25, ..usual }
-        }
-        Profile::Edges => Plan { wild: 35, masters: 10, ..usual },
-        Profile::SmallLog => Plan { reach: 5, actions: 8, weights: [8, 40, 45, 10, 4], ..usual },
-        Profile::Extremes => Plan { wild: 25, extremes: true, weights: [40, 15, 25, 2, 20], masters: 10, ..usual },
-        Profile::Queries => Plan { calls: 80, wild: 4, weights: [15, 15, 25, 2, 60], ..usual },
-        Profile::Followers => Plan {
-            tracks: 6,
-            points: 4,
-            reach: 11,
-            actions: 2,
-            wild: 3,
-            weights: [18, 25, 48, 3, 3],
-            masters: 30,
-            followers: Some(followers),
-            large: 5_000,
-            ..usual
-        },
-        Profile::Full => Plan { tracks: 16, points: 700, reach: 90, weights: [50, 15, 20, 2, 20], ..usual },
-    }
-}
-
 /// More ticks than these are asked only of a board that stops before.
 pub const LARGE: i64 = 2_000;
+/// Of thresholds, where the plan says nothing else; no drift of short spans exceeds it.
+pub const NEAR: i64 = 12;
+
+const USUAL: Plan = Plan {
+    tracks: 5,
+    points: 16,
+    reach: 12,
+    actions: 4,
+    calls: 50,
+    wild: 2,
+    extremes: false,
+    weights: [20, 25, 40, 2, 5],
+    masters: 0,
+    followers: None,
+    turns: 2,
+    ends: 0,
+    large: LARGE,
+};
+
+const FOLLOWERS: Plan = Plan {
+    tracks: 6,
+    points: 4,
+    reach: 11,
+    actions: 2,
+    wild: 3,
+    weights: [18, 25, 48, 3, 3],
+    masters: 30,
+    followers: Some(Followers { near: NEAR, alike: 50, led: 85, repeats: 60, moves: 12, clears: 40 }),
+    large: 5_000,
+    ..USUAL
+};
+
+const TURNS: Plan = Plan {
+    points: 12,
+    reach: 4,
+    actions: 6,
+    calls: 32,
+    masters: 20,
+    followers: Some(Followers { near: 3, alike: 30, led: 50, repeats: 20, moves: 4, clears: 60 }),
+    turns: 40,
+    ends: 50,
+    ..USUAL
+};
+
+pub fn plan(profile: Profile) -> Plan {
+    match profile {
+        Profile::Typical => USUAL,
+        Profile::Dense => {
+            Plan { tracks: 22, points: 90, reach: 4, actions: 12, weights: [8, 30, 50, 4, 2], masters: 25, ..USUAL }
+        }
+        Profile::Edges => Plan { wild: 35, masters: 10, ..USUAL },
+        Profile::SmallLog => Plan { reach: 5, actions: 8, weights: [8, 40, 45, 10, 4], ..USUAL },
+        Profile::Extremes => Plan { wild: 25, extremes: true, weights: [40, 15, 25, 2, 20], masters: 10, ..USUAL },
+        Profile::Queries => Plan { calls: 80, wild: 4, weights: [15, 15, 25, 2, 60], ..USUAL },
+        Profile::Followers => FOLLOWERS,
+        Profile::Turns => TURNS,
+        Profile::Full => Plan { tracks: 16, points: 700, reach: 150, weights: [50, 15, 20, 2, 20], ..USUAL },
+    }
+}

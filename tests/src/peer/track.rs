@@ -42,6 +42,11 @@ impl Track {
         Track { position: self.home(), due: true, passes: 0, ..self }
     }
 
+    /// Whether a turn takes it from the first phase to the last: from home, and "that location is then its far end".
+    pub fn closes(&self, backward: bool) -> bool {
+        backward != self.backward && self.position == self.home()
+    }
+
     /// The event of a change to a mode.
     pub fn action(&self, new: u8) -> u8 {
         self.actions[(self.mode * 4 + new) as usize & 15]

@@ -61,7 +61,7 @@ abbrev pub bytes : ℕ → ℕ → ℕ → ℕ → ℕ → ℕ → ℕ → List 
 bytes clock i kind event detail position passes =
     clock ∷ 0 ∷ 0 ∷ 0 ∷ i ∷ kind ∷ event ∷ detail ∷ position ∷ 0 ∷ 0 ∷ 0 ∷ passes ∷ 0 ∷ 0 ∷ 0 ∷ []
 
-by-bytes : {s : Shown} (first : ℕ) (others : List Reply) (clock : ℕ) (rs : List Record) (rest : ℕ) (log : List ℕ) → logBytes rs ≡ log →
+pub by-bytes : {s : Shown} (first : ℕ) (others : List Reply) (clock : ℕ) (rs : List Record) (rest : ℕ) (log : List ℕ) → logBytes rs ≡ log →
     s ≡ record { answers = replicate first accepted ++ others; clock = clock; held = length rs; log = log ++ replicate rest 0 } →
     s ≡ seenAs first others clock rs rest
 by-bytes first others clock rs rest log e p =

@@ -5,7 +5,6 @@ use Rattle.track.specs.Number.{naturalOf}
 use Rattle.track.specs.Setup.{accepted, directionSet}
 use Rattle.track.specs.declared.number.Natural.{Natural}
 use borrow.Author.Needs.{needs}
-use borrow.Author.Tests.{eq-eqb, ne-eqb}
 use lib.IntN.{ℤ}
 use mir.Facts.{fits-below}
 use mathlib.Core.Path.{_∙_, ap}
@@ -29,13 +28,13 @@ returns : tie.Need-returns
 unfolding directionSet
 returns c = natural-out _ _ _ (told at (c .before .before .before .before .fits .d) (c .before .before .before .in-range .ensures) (c .before .enum-told .given .1)) (c .refused .ensures)
 
-cast-next : tie.Need-cast-next
-cast-next c =
-    let s = c .before .before .before .before in
-    fits-below tt (natural-in _ 0 1 (told at (s .fits .d) (c .before .before .before .in-range .ensures) (c .before .k .given .1)) .2)
+cast-turned : tie.Need-cast-turned
+cast-turned c =
+    let k = c .before in
+    fits-below tt (natural-in _ 0 1 (told at (k .before .before .before .fits .d) (k .before .before .in-range .ensures) (k .k .given .1)) .2)
 
-rewound-requires : tie.Need-rewound-requires
-rewound-requires c κs = search needs
+turned-requires : tie.Need-turned-requires
+turned-requires c κs = search needs
 
 accepted-requires : tie.Need-accepted-requires
 accepted-requires c κs = search needs
@@ -43,17 +42,9 @@ accepted-requires c κs = search needs
 returns-2 : tie.Need-returns-2
 unfolding directionSet
 returns-2 c =
-    natural-take _ _ _ (told at (c .before .before .before .before .before .before .before .fits .d) (c .before .before .before .before .before .before .in-range .ensures) (c .before .before .before .before .k .given .1))
-    (c .accepted .ensures ∙ ap accepted (c .before .rewound .ensures) ∙ simp (eq-eqb _ _ (c .before .before .if1 .taken)))
-
-accepted-requires-2 : tie.Need-accepted-requires-2
-accepted-requires-2 c κs = search needs
-
-returns-3 : tie.Need-returns-3
-unfolding directionSet
-returns-3 c =
-    natural-take _ _ _ (told at (c .before .before .before .before .before .before .fits .d) (c .before .before .before .before .before .in-range .ensures) (c .before .before .before .k .given .1))
-    (c .accepted2 .ensures ∙ simp (ne-eqb _ _ (c .before .if1 .left)))
+    let k = c .before .before .before in
+    natural-take _ _ _ (told at (k .before .before .before .fits .d) (k .before .before .in-range .ensures) (k .k .given .1))
+    (c .accepted .ensures ∙ ap accepted (c .before .turned .ensures))
 
 pub set-direction-spec : {M : Type 1} → statement M
 set-direction-spec =
@@ -64,9 +55,7 @@ set-direction-spec =
     enum-told
     refused-requires
     returns
-    cast-next
-    rewound-requires
+    cast-turned
+    turned-requires
     accepted-requires
-    returns-2
-    accepted-requires-2
-    returns-3)
+    returns-2)
