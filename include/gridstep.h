@@ -1,6 +1,6 @@
 /*
  * GridStep sequence board: the C interface of libfirmware.a (crates/firmware). "01" is the specification, with the
- * followers of "02" (request 2.1).
+ * followers (request 2.1) and the turns on home (2.3) of "02".
  *
  * The firmware keeps one board and one log. A board is made by gridstep_new, and lent by pointer to the mode calls
  * and to advance; every other call goes through gridstep_call, but for master, which is gridstep_master. No function
@@ -57,7 +57,8 @@ struct gridstep_track {
     uint8_t mode;
     uint8_t direction;   /* 0 forward (home is start), 1 backward (home is end) */
     uint8_t repeat;      /* 1: never stops by itself */
-    uint8_t due;         /* 1: the position is not yet visited */
+    uint8_t due;         /* 1: the position is not yet visited, so that the next step reaches it; set by rewinding, by a
+                          * jump, and where a PAUSED track is turned round on the home position that it has visited */
     uint8_t actions[16]; /* the event of a change from mode a to mode b at a * 4 + b; 0 none */
     uint8_t master;      /* the track that this one follows; 0 where it follows none */
     uint8_t band;        /* the band held: 0 none, else the number of the threshold, counted from 1 */

@@ -23,7 +23,7 @@ pub fn side_by_side<B: Alike>(name: &str, case: &Case, tally: &mut Tally) -> Tol
         let found = Found::by(Some(call), &model);
         let reply = model.apply_encoded(&call.encode(), &mut log);
         assert_eq!(board.apply(call, &mut board_log), reply, "{}", place());
-        assert!(board.like(&model), "{}: {:?}\n{model:?}", place(), board.told());
+        assert!(board.like(&model), "{}: {:?}\n{model:?}", place(), board.picture());
         assert!(log == board_log, "{}", place());
         assert!(model.unbroken(), "{}", place());
         tally.note(&found, reply, &model, &log);
@@ -41,7 +41,7 @@ pub fn cut_anew<B: Alike>(name: &str, case: &Case, told: &Told, seed: u64) -> bo
     // Rows that are no calls are refused 9 and stand in no list.
     let of_calls: Vec<Reply> = told.replies.iter().filter(|&&reply| reply != Refused(9)).copied().collect();
     assert_eq!(observed(&calls, &replies), observed(&case.calls, &of_calls), "{name}: cut anew");
-    assert!(board.like(&told.board), "{name}: cut anew: {:?}\n{:?}", board.told(), told.board);
+    assert!(board.like(&told.board), "{name}: cut anew: {:?}\n{:?}", board.picture(), told.board);
     assert!(log == told.log, "{name}: cut anew: log");
     calls != case.calls
 }

@@ -36,8 +36,8 @@ impl Begun for Library {
 pub trait Alike: Begun {
     fn like(&self, model: &Model) -> bool;
 
-    /// The board in the model's words.
-    fn told(&self) -> Model;
+    /// The board as a model.
+    fn picture(&self) -> Model;
 }
 
 impl Alike for Peer {
@@ -45,8 +45,8 @@ impl Alike for Peer {
         self.same(model)
     }
 
-    fn told(&self) -> Model {
-        self.picture()
+    fn picture(&self) -> Model {
+        Peer::picture(self)
     }
 }
 
@@ -55,8 +55,8 @@ impl Alike for Library {
         self.same(model)
     }
 
-    fn told(&self) -> Model {
-        self.picture()
+    fn picture(&self) -> Model {
+        Library::picture(self)
     }
 }
 

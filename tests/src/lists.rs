@@ -122,12 +122,14 @@ impl Found {
         Found { held: board.held as usize, turned }
     }
 
-    /// For a flip of a PAUSED track: whether it set due (2.3).
-    pub fn flip(&self, left: &Model) -> Option<bool> {
+    /// Of a flip of a PAUSED track: whether it left due as it was, set due (2.3), or set due on a span of two locations.
+    pub fn flip(&self, left: &Model) -> Option<usize> {
         let (t, before) = self.turned?;
         let after = left.track(t)?;
         let flipped = before.mode == PAUSED && before.direction != after.direction;
-        flipped.then_some(before.due == 0 && after.due == 1)
+        let set_due = before.due == 0 && after.due == 1;
+        let two = before.start + 1 == before.end;
+        flipped.then_some(usize::from(set_due) + usize::from(set_due && two))
     }
 }
 
@@ -137,8 +139,8 @@ pub struct Tally {
     pub kinds: [u32; 9],
     pub refusals: [u32; 11],
     pub records: [u32; 5],
-    /// flips that left due as it was, and flips that set it
-    pub flips: [u32; 2],
+    /// flips that left due as it was, that set it, and that set it on a span of two locations
+    pub flips: [u32; 3],
 }
 
 impl Tally {
@@ -149,7 +151,7 @@ impl Tally {
         self.refusals[if row[0] == 1 { row[1] as usize } else { 0 }] += 1;
         let records = written(log, found.held, left.held as usize);
         records.iter().for_each(|bytes| self.records[bytes[5] as usize] += 1);
-        found.flip(left).iter().for_each(|&set_due| self.flips[usize::from(set_due)] += 1);
+        found.flip(left).iter().for_each(|&kind| self.flips[kind] += 1);
     }
 
     /// Every answer's kind came, every kind of record up to the last named, and each of these refusals.

@@ -80,8 +80,8 @@ pub fn turned_on_home<B: Begun>() {
     }
 }
 
-/// Turned on home after a pass, and on the new home right behind that: each turn closes a pass, the third of three loops
-/// on the stop. It rewinds by the direction of then, which is the first one again.
+/// Turned on home after a pass, and on the new home right behind that: after each turn the next arrival closes a pass. The
+/// third is the last of its loops and stops it. It rewinds by the direction of then, which is the first one again.
 pub fn turned_after_a_pass<B: Begun>() {
     for way @ Way { home, far, .. } in WAYS {
         let mut bench = on_home::<B>(way, &[Action(0, 1, 0, 21)]);
@@ -250,7 +250,7 @@ pub fn turned_twice<B: Begun>() {
     }
 }
 
-/// Not PAUSED: STOPPED it rewinds, PLAYING and WAITING are refused 2. A value that is no direction is 3. On home, all.
+/// Not PAUSED: STOPPED it rewinds, PLAYING and WAITING are refused 2. A value that is no direction is 3.
 pub fn turned_in_other_modes<B: Begun>() {
     let no_directions = [2, -1, 255, 256, 257, 1 << 32, 1 << 32 | 1, i64::MIN, i64::MAX];
     for way @ Way { home, far, .. } in WAYS {
@@ -305,7 +305,7 @@ pub fn turned_over_the_clock<B: Begun>() {
     assert_eq!((track.position, track.passes, track.due), (982_985, 1001, 0));
 }
 
-/// A master turned on its home is as far from home as its span is long, told in the next tick; stopped on the pass that it
+/// A master turned on its home is at its span's last distance, told in the next tick; stopped on the pass that it
 /// closes, it leaves its follower no band.
 pub fn turned_master<B: Begun>() {
     let mut bench = pair::<B>(160);

@@ -33,7 +33,7 @@ fn lists_agree() {
     assert!(tally.records[1..].iter().all(|&number| number > 1000));
     // 7 and 9 cannot come in a list with one log: see rules.rs.
     assert!([1, 2, 3, 4, 5, 6, 8, 10].iter().all(|&number| tally.refusals[number] > 500));
-    assert!(tally.flips.iter().all(|&number| number > 5000));
+    assert!(tally.flips.iter().all(|&number| number > 1000));
 }
 
 fn replayed(case: &Case, calls: &[Call]) -> (Vec<Seen>, Replay) {

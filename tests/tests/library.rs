@@ -146,8 +146,10 @@ fn lists_agree(profile: Profile) {
     refusals.extend((profile == Profile::Full).then_some(5));
     refusals.extend(profile.has_masters().then_some(10));
     compared.tally.assert_whole(if profile.has_masters() { BAND } else { REFUSED_COMMAND }, &refusals);
-    let flips = if profile == Profile::Turns { 2 * compared.lists } else { 0 };
-    assert!(compared.tally.flips.iter().all(|&times| u64::from(times) > flips), "too few turns: {:?}", compared.tally);
+    // Spans of two locations are rare but among turns.
+    let (kinds, flips) = if profile == Profile::Turns { (3, compared.lists) } else { (2, 0) };
+    let often = compared.tally.flips[..kinds].iter().all(|&times| u64::from(times) > flips);
+    assert!(often, "too few turns: {:?}", compared.tally);
 }
 
 macro_rules! profiles {

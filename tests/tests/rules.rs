@@ -124,7 +124,7 @@ fn mutate(peer: &mut Peer, rng: &mut Rng) {
 /// Lent boards with a field altered: the same answer, board and log as the model's, broken or not.
 #[test]
 fn altered_boards_agree() {
-    let (mut whole, mut broken, mut flips) = (0, 0, [0; 2]);
+    let (mut whole, mut broken, mut flips) = (0, 0, [0; 3]);
     for seed in 0..4000 {
         let mut rng = Rng(seed);
         let profile = [Profile::Dense, Profile::Followers, Profile::Typical, Profile::Turns][seed as usize % 4];
@@ -145,7 +145,7 @@ fn altered_boards_agree() {
                 let mut after = model.clone();
                 agree(&mut peer.clone(), &mut after, call, &log);
                 let flip = Found::by(Some(call), &model).flip(&after);
-                flip.iter().for_each(|&set_due| flips[usize::from(set_due)] += 1);
+                flip.iter().for_each(|&kind| flips[kind] += 1);
             }
         }
     }

@@ -29,5 +29,5 @@ const SEED: u64 = 9_000_000;
 fn lists_agree() {
     let tally = against::lists::<Peer>(Profile::Turns, SEED);
     tally.assert_whole(BAND, &[1, 2, 3, 4, 6, 8, 10]);
-    assert!(tally.flips.iter().all(|&flips| u64::from(flips) > 2 * total()), "too few turns: {tally:?}");
+    assert!(tally.flips.iter().all(|&flips| u64::from(flips) > total()), "too few turns: {tally:?}");
 }

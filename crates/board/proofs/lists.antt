@@ -13,3 +13,4 @@ pub mod RejectedFollowers
 pub mod Answers
 pub mod FullCalls
 pub mod Flips
+pub mod FlipCards

@@ -1,6 +1,7 @@
--- Turning a PAUSED track (02, 2.3): the flip on its new far position closes a pass there, every other turn changes the direction alone.
+-- Turning a PAUSED track (02, 2.3): a flip on its new far position sets due, so that the next arrival closes a pass there; every other turn
+-- changes the direction alone.
 use Prim.Native.Nat.{ℕ, _+_, _-_, _≤_}
-use mathlib.Core.Path.{_≡_, refl, sym, _∙_, ap}
+use mathlib.Core.Path.{_≡_, refl, sym, _∙_, ap, ap₂}
 use mathlib.Core.Bool.{Bool, true, false, cond, not, _&&_}
 use native.Mathlib.Omega.{arith}
 use lib.Dec.{eqb, leb}
@@ -103,7 +104,7 @@ module _ (t : Track) (k : ℕ) where
         pub turned-elsewhere : (t .position .0 ≡ far (turned t k) → ⊥) → directed t k ≡ accepted (turned t k)
         turned-elsewhere n = turned-alone (λ c. n (c .at-far))
 
--- ---- the flip that closes
+-- ---- the flip that leaves a pass to close
 
 module _ (t : Track) (k : ℕ) (c : Closing t k) where
   -- its new far position is the home position that it had
@@ -164,19 +165,36 @@ module _ (t : Track) (k : ℕ) (c : Closing t k) where
   directed-valid : Valid (directed t k .track)
   directed-valid = changed-keeps t (c .valid) (change.Direction (pos k)) .valid
 
+  resumed-valid : Valid (resumed t k)
+  resumed-valid = entered-valid (directed t k .track) directed-valid PLAYING (omega arith)
+
   -- and the arrival after that is the other end, where no pass is counted
+  crosses : (m : ℕ) → m ≤ WAITING → (let u = moved (turned t k) m (t .position .0) (t .passes .0 + 1) VISITED in
+      (arrival u ≡ far t) × (passesAt u (arrival u) ≡ t .passes .0 + 1))
+  crosses m l =
+      let v : Valid (moved (turned t k) PAUSED (t .position .0) (t .passes .0) DUE) = rw (ap (λ (r : Changed). r .track) turned-closes) at directed-valid in
+      let h = far-home (moved (turned t k) m (t .position .0) (t .passes .0 + 1) VISITED)
+      (moved-valid (moved (turned t k) PAUSED (t .position .0) (t .passes .0) DUE) v m (t .position .0) (t .passes .0 + 1) VISITED l (omega arith) (omega arith))
+      refl (c .at-far) in
+      (h .0 ∙ flip-ends t (c .valid) k (c .direction) (c .flips) .1, h .1)
+
   pub closing-next : (w : Bool) → stops (resumed t k) ≡ false →
       (arrival (step (resumed t k) w) ≡ far t) × (passesAt (step (resumed t k) w) (arrival (step (resumed t k) w)) ≡ t .passes .0 + 1)
   closing-next w n =
-      let v : Valid (moved (turned t k) PAUSED (t .position .0) (t .passes .0) DUE) = rw (ap (λ (r : Changed). r .track) turned-closes) at directed-valid in
-      let h = far-home (moved (turned t k) (cond w WAITING PLAYING) (t .position .0) (t .passes .0 + 1) VISITED)
-      (moved-valid (moved (turned t k) PAUSED (t .position .0) (t .passes .0) DUE) v (cond w WAITING PLAYING) (t .position .0) (t .passes .0 + 1) VISITED
-      (cond-cases (λ (m : ℕ). m ≤ WAITING) w (λ _. omega arith) (λ _. omega arith)) (omega arith) (omega arith)) refl (c .at-far) in
-      rw (closing-step w n) (h .0 ∙ flip-ends t (c .valid) k (c .direction) (c .flips) .1, h .1)
+      rw (closing-step w n) (crosses (cond w WAITING PLAYING) (cond-cases (λ (m : ℕ). m ≤ WAITING) w (λ _. omega arith) (λ _. omega arith)))
 
-  -- a leap of one step knows it
-  pub closing-leap : stops (resumed t k) ≡ false → leap (resumed t k) 1 ≡ step (resumed t k) false
-  unfolding step
-  closing-leap n =
-      let v : Valid (resumed t k) = entered-valid (directed t k .track) directed-valid PLAYING (omega arith) in
-      simp n (leap-suc (resumed t k) v 0 ∙ ap (λ (u : Track). visited u (resumed t k .mode)) (leap-zero (resumed t k) v))
+  -- the leap knows it: its first step is on the spot and closes the pass, its second crosses
+  pub closing-leap : leap (resumed t k) 1 ≡ moved (turned t k) PLAYING (t .position .0) (t .passes .0 + 1) VISITED
+  unfolding visited arrival passesAt
+  closing-leap =
+      leap-suc (resumed t k) resumed-valid 0
+      ∙ ap₂ (λ (u r : Track). visited u (r .mode)) (leap-zero (resumed t k) resumed-valid ∙ resumed-is) resumed-is
+      ∙ simp (eq-eqb _ _ (c .at-far))
+
+  pub closing-crosses : leap (resumed t k) 2 ≡ moved (turned t k) PLAYING (far t) (t .passes .0 + 1) VISITED
+  unfolding visited
+  closing-crosses =
+      let x = crosses PLAYING (omega arith) in
+      leap-suc (resumed t k) resumed-valid 1
+      ∙ ap₂ (λ (u r : Track). visited u (r .mode)) closing-leap resumed-is
+      ∙ ap₂ (λ (l p : ℕ). moved (turned t k) PLAYING l p VISITED) (x .0) (x .1)

@@ -173,7 +173,7 @@ module _ (t : Track) (v : Valid t) where
   unfolding repeatSet
   repeat-keeps f = on-natural (Keeps t) t f 0 1 _ (same t v) (λ k low high. set-keeps (t .loops) k (t .direction) (v .loops) high (v .direction))
 
-  -- a position of the span, and due set, leave all else
+  -- put on a place of its span and due, a track keeps what it kept
   due-keeps : (u : Track) → Keeps t u → (l : ℕ) → (u .start .0 ≤ l) × (l ≤ u .end .0) → Keeps t (moved u (u .mode) l (u .passes .0) DUE)
   due-keeps u k l h =
       record {

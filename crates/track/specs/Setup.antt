@@ -1,4 +1,4 @@
--- The set-up changes of a track, as far as the track alone decides them (01, "Other calls" and "Turned down").
+-- The set-up changes of a track, as far as the track alone decides them (01, "Other calls" and "Turned down"; 02, 2.3).
 use Prim.Native.Nat.{ℕ, _+_, _*_}
 use mathlib.Core.Bool.{Bool, cond, not, _&&_, _||_}
 use lib.ListN.{set}
@@ -105,7 +105,7 @@ repeatSet t f =
 abbrev pub turned : Track → ℕ → Track
 turned t direction = setTo t (t .start) (t .end) (t .loops) (t .repeat) direction
 
--- "flips a PAUSED, visited track standing on its new far position" (02, 2.3)
+-- "flips a PAUSED, visited track standing on its new far position" (02, 2.3): the next arrival closes a pass there
 unfoldable pub closes : Track → ℕ → Bool
 closes t direction =
     not (eqb direction (t .direction))

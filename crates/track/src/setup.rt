@@ -168,7 +168,7 @@ impl Track {
         accepted(next)
     }
 
-    // Whether turning it this way flips a PAUSED, visited track that stands on its new far position: it has a pass to close there.
+    // Whether turning it so flips a PAUSED, visited track that stands on its new far position: its next arrival then closes a pass there.
     fn closes(self, direction: u8) -> bool
         ensures { λ r. ⌜ r ≡ closes self direction ⌝ }
     {
@@ -187,8 +187,8 @@ impl Track {
         self.position.0 == far.0
     }
 
-    // The track turned: a STOPPED one rewinds by the new direction, a PAUSED one with a pass to close becomes due.
-    fn turned(self, direction: u8) -> Track
+    // The track turned: a STOPPED one rewinds by the new direction, a PAUSED one that `closes` becomes due.
+    fn turned_to(self, direction: u8) -> Track
         ensures { λ r. ⌜ r ≡ turnedTo self direction ⌝ }
     {
         let mut next = self;
@@ -208,7 +208,7 @@ impl Track {
         let Natural::In(k) = in_range(d, 0, 1) else {
             return refused(Answer::VALUE, self);
         };
-        accepted(self.turned(k as u8))
+        accepted(self.turned_to(k as u8))
     }
 
     // The event of a change from one mode to another is set; 0 clears it.

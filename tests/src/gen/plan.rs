@@ -140,6 +140,7 @@ pub fn plan(profile: Profile) -> Plan {
         Profile::Queries => Plan { calls: 80, wild: 4, weights: [15, 15, 25, 2, 60], ..USUAL },
         Profile::Followers => FOLLOWERS,
         Profile::Turns => TURNS,
+        // Spans so long that 700 points come to more than 256 places, so that refusal 5 comes often.
         Profile::Full => Plan { tracks: 16, points: 700, reach: 150, weights: [50, 15, 20, 2, 20], ..USUAL },
     }
 }

@@ -28,13 +28,13 @@ returns : tie.Need-returns
 unfolding directionSet
 returns c = natural-out _ _ _ (told at (c .before .before .before .before .fits .d) (c .before .before .before .in-range .ensures) (c .before .enum-told .given .1)) (c .refused .ensures)
 
-cast-turned : tie.Need-cast-turned
-cast-turned c =
+cast-turned-to : tie.Need-cast-turned-to
+cast-turned-to c =
     let k = c .before in
     fits-below tt (natural-in _ 0 1 (told at (k .before .before .before .fits .d) (k .before .before .in-range .ensures) (k .k .given .1)) .2)
 
-turned-requires : tie.Need-turned-requires
-turned-requires c κs = search needs
+turned-to-requires : tie.Need-turned-to-requires
+turned-to-requires c κs = search needs
 
 accepted-requires : tie.Need-accepted-requires
 accepted-requires c κs = search needs
@@ -44,7 +44,7 @@ unfolding directionSet
 returns-2 c =
     let k = c .before .before .before in
     natural-take _ _ _ (told at (k .before .before .before .fits .d) (k .before .before .in-range .ensures) (k .k .given .1))
-    (c .accepted .ensures ∙ ap accepted (c .before .turned .ensures))
+    (c .accepted .ensures ∙ ap accepted (c .before .turned-to .ensures))
 
 pub set-direction-spec : {M : Type 1} → statement M
 set-direction-spec =
@@ -55,7 +55,7 @@ set-direction-spec =
     enum-told
     refused-requires
     returns
-    cast-turned
-    turned-requires
+    cast-turned-to
+    turned-to-requires
     accepted-requires
     returns-2)

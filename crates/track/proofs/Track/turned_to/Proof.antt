@@ -1,6 +1,6 @@
 use Rattle.track.proofs.Exits.{turned-to-rewound, turned-to-due, turned-to-alone}
-use Rattle.track.proofs.Track.turned.Statement.{statement}
-use Rattle.track.proofs.Track.turned.Tie as tie
+use Rattle.track.proofs.Track.turned_to.Statement.{statement}
+use Rattle.track.proofs.Track.turned_to.Tie as tie
 use borrow.Author.Needs.{needs}
 use mathlib.Core.Path.{refl}
 
@@ -22,8 +22,8 @@ returns-2 c = turned-to-due _ _ (c .before .before .before .if1 .left) (c .befor
 returns-3 : tie.Need-returns-3
 returns-3 c = turned-to-alone _ _ (c .before .before .if1 .left) (c .before .closes .ensures) (c .if2 .left) refl
 
-pub turned-spec : {M : Type 1} → statement M
-turned-spec =
+pub turned-to-spec : {M : Type 1} → statement M
+turned-to-spec =
     tie.close
     (tie.spec
     rewound-requires
