@@ -122,7 +122,8 @@ impl Found {
         Found { held: board.held as usize, turned }
     }
 
-    /// Of a flip of a PAUSED track: whether it left due as it was, set due (2.3), or set due on a span of two locations.
+    /// Of a flip of a PAUSED track: 0 if it left due as it was, 1 if it set it (2.3) on a span of three locations or more,
+    /// 2 if on one of two.
     pub fn flip(&self, left: &Model) -> Option<usize> {
         let (t, before) = self.turned?;
         let after = left.track(t)?;
@@ -139,7 +140,7 @@ pub struct Tally {
     pub kinds: [u32; 9],
     pub refusals: [u32; 11],
     pub records: [u32; 5],
-    /// flips that left due as it was, that set it, and that set it on a span of two locations
+    /// flips that left due as it was, that set it on longer spans, and on spans of two locations
     pub flips: [u32; 3],
 }
 

@@ -321,8 +321,16 @@ pub fn turned_master<B: Begun>() {
     assert_eq!(bench.lines(), [[2, 1, 4, 51, 0, 1, 0], [3, 0, 2, 78, 16, 0, 1]]);
 }
 
-/// A list on the pair of followers that turns, idles and jumps, with the records that it writes.
-fn drifting() -> (Vec<Call>, [[i64; 7]; 8]) {
+/// A list on a follower and its master that turns, idles and jumps until clock 14: the records that it writes, and what
+/// it leaves of the follower: position, passes, due and band.
+struct Drift {
+    calls: Vec<Call>,
+    lines: Vec<[i64; 7]>,
+    follower: i64,
+    left: [i64; 4],
+}
+
+fn drifting() -> Drift {
     let pairs = Pairs::new(&[[3, 31], [5, 51]]);
     let set_up = [Track(0, 0, 10), Track(1, 0, 10), Loops(1, 9), Point(1, 0, 9, 0, 0, 0), Master(1, 0, pairs)];
     let calls = [
@@ -336,17 +344,25 @@ fn drifting() -> (Vec<Call>, [[i64; 7]; 8]) {
         // Turned at 8 it is 8 from home: 2 apart.
         &[Pause(1), Direction(1, 0), Advance(2), Resume(0), Advance(1)],
     ];
-    let lines = [
-        [1, 1, 1, 9, 0, 0, 0],
-        [2, 1, 4, 51, 0, 0, 0],
-        [5, 1, 4, 31, 0, 0, 0],
-        [7, 1, 4, 51, 0, 0, 0],
-        [8, 1, 1, 9, 0, 0, 0],
-        [8, 1, 4, 31, 0, 0, 1],
-        [9, 1, 4, 51, 0, 10, 1],
-        [10, 1, 4, 31, 0, 9, 1],
+    let idle = [[1, 1, 1, 9, 0, 0, 0], [2, 1, 4, 51, 0, 0, 0], [5, 1, 4, 31, 0, 0, 0], [7, 1, 4, 51, 0, 0, 0]];
+    let resumed = [[8, 1, 1, 9, 0, 0, 0], [8, 1, 4, 31, 0, 0, 1], [9, 1, 4, 51, 0, 10, 1], [10, 1, 4, 31, 0, 9, 1]];
+    Drift { calls: calls.concat(), lines: [idle, resumed].concat(), follower: 1, left: [8, 1, 0, 0] }
+}
+
+/// The list of the proved cards: the master stands on its home, so that the follower's distance is the drift.
+fn jumping() -> Drift {
+    let pairs = Pairs::new(&[[2, 41], [4, 42]]);
+    let set_up = [Track(0, 5, 15), Track(1, 0, 10), Direction(1, 1), Master(0, 1, pairs), Loops(0, 2)];
+    let calls = [
+        &set_up[..],
+        &[Play(0), Play(1), Pause(1), Advance(1), Pause(0)],
+        // 10 from home; the pass closed at clock 4, then 0 to 3 from home.
+        &[Direction(0, 1), Advance(2), Resume(0), Advance(5)],
+        // 8 from home; turned, 2 from home; 2 to 4 from home.
+        &[Pause(0), Jump(0, 7), Advance(1), Direction(0, 0), Advance(2), Resume(0), Advance(3)],
     ];
-    (calls.concat(), lines)
+    let lines = [[2, 0, 4, 42, 1, 5, 0], [8, 0, 4, 41, 1, 12, 1], [9, 0, 4, 42, 1, 7, 1], [13, 0, 4, 41, 1, 8, 1]];
+    Drift { calls: calls.concat(), lines: lines.to_vec(), follower: 0, left: [9, 1, 0, 1] }
 }
 
 /// A list on a bench of its own, and what is seen of it.
@@ -358,19 +374,20 @@ fn seen<B: Begun>(calls: &[Call]) -> (Bench<B>, Vec<Seen>) {
 
 /// A follower turned on home: its new distance is judged in the next tick, idle or not, however the ticks are cut.
 pub fn turned_follower<B: Held>() {
-    let (calls, lines) = drifting();
-    let (mut whole, all) = seen::<B>(&calls);
-    assert_eq!((whole.lines(), whole.clock_and_held()), (lines.to_vec(), (14, 8)));
-    let follower = shown(&mut whole, 1);
-    assert_eq!((follower.position, follower.passes, follower.due, follower.band), (8, 1, 0, 0));
-    let singly = calls.iter().flat_map(|&call| match call {
-        Advance(count) => vec![Advance(1); count as usize],
-        other => vec![other],
-    });
-    let cuts = (0..50).map(|seed| recut(&calls, seed)).chain([singly.collect()]);
-    for cut in cuts {
-        let (mut anew, seen_anew) = seen::<B>(&cut);
-        assert_eq!((anew.lines(), seen_anew), (lines.to_vec(), all.clone()), "{cut:?}");
-        assert!(anew.board.equals(&whole.board) && anew.log == whole.log, "{cut:?}");
+    for Drift { calls, lines, follower, left } in [drifting(), jumping()] {
+        let (mut whole, all) = seen::<B>(&calls);
+        assert_eq!((whole.lines(), whole.clock_and_held()), (lines.clone(), (14, lines.len() as u64)));
+        let track = shown(&mut whole, follower);
+        assert_eq!([track.position, track.passes, track.due, track.band], left);
+        let singly = calls.iter().flat_map(|&call| match call {
+            Advance(count) => vec![Advance(1); count as usize],
+            other => vec![other],
+        });
+        let cuts = (0..50).map(|seed| recut(&calls, seed)).chain([singly.collect()]);
+        for cut in cuts {
+            let (mut anew, seen_anew) = seen::<B>(&cut);
+            assert_eq!((anew.lines(), seen_anew), (lines.clone(), all.clone()), "{cut:?}");
+            assert!(anew.board.equals(&whole.board) && anew.log == whole.log, "{cut:?}");
+        }
     }
 }

@@ -6,13 +6,13 @@ use crate::call::Pairs;
 use crate::track::{DRIFT_MOST, STOPPED};
 
 impl Maker {
-    /// With the chance that lists of followers give; never in others.
+    /// With the chance that lists with many followers give; never in others.
     pub(super) fn by_chance(&mut self, percent: fn(&Followers) -> i64) -> bool {
         let percent = self.plan.followers.as_ref().map(percent);
         percent.is_some_and(|percent| self.rng.chance(percent))
     }
 
-    /// A master for most tracks of a list of followers, which has two tracks at least.
+    /// A master for many tracks of such a list, which has two tracks at least.
     pub(super) fn name_masters(&mut self) {
         while self.plan.followers.is_some() && self.board.tracks.iter().flatten().count() < 2 {
             let call = self.new_track();

@@ -1,5 +1,5 @@
 -- Cards of 02, 2.3: tracks turned on a small board, worked out by hand from 02's words; and wrong answers, each refuted as those of Rejected are.
-use Prim.Native.Nat.{ℕ, _+_}
+use Prim.Native.Nat.{ℕ}
 use mathlib.Core.Path.{_≡_, refl}
 use mathlib.Core.List.{List, [], _∷_, _++_}
 use native.Mathlib.Omega.{arith}
@@ -35,7 +35,7 @@ stoodAfter n ticks =
 abbrev pub stoodHome : List Call
 stoodHome = stoodAfter 5 1
 
--- the same track begun backward, so that home is 5; its point is there
+-- a track begun backward, so that home is 5; its point is there
 abbrev pub stoodBackward : List Call
 stoodBackward = track 0 0 5 ∷ dir 0 1 ∷ loops 0 2 ∷ point 0 5 9 0 0 0 ∷ play 0 ∷ advance 1 ∷ pause 0 ∷ []
 
