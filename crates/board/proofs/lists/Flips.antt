@@ -1,13 +1,11 @@
 -- Turning on the home location (02, 2.3), on a board: the call, the resume behind it, and what the next tick writes.
-use Prim.Native.Nat.{ℕ, zero, suc, _+_, _/_, _%_, _^_, _≤_, _<_}
+use Prim.Native.Nat.{ℕ, _+_, _≤_, _<_}
 use mathlib.Core.Logic.{inl, inr}
-use native.Mathlib.Nat.{add-zero, zero-add, div-one}
 use mathlib.Core.Path.{_≡_, refl, sym, ap, _∙_, subst}
 use mathlib.Core.List.{List, [], _∷_, _++_, map, map-append, append-assoc}
 use native.Mathlib.Omega.{arith}
 use lib.IntN.{ℤ, pos}
 use lib.Dec.{eqb}
-use borrow.Author.Tests.{eq-eqb, le-leb}
 use mathlib.Core.Bool.{Bool, true, false}
 use lib.ListN.{length, length-set, set}
 use lib.Seq.{getD-set-same}
@@ -29,16 +27,17 @@ use Rattle.board.specs.Board.{trackAt, noTrack, foundIn, Unbroken}
 use Rattle.board.specs.Setup.{boardWith, setUp}
 use Rattle.board.specs.Setup as outcome
 use Rattle.board.specs.Log.{capacity}
-use Rattle.board.specs.Mode.{ModeResult, callRecords, changing, changesTo, decided, modeResult}
+use Rattle.board.specs.Mode.{ModeResult, callRecords, changing, modeResult}
 use Rattle.board.specs.Arrivals.{arrivalAt, arrivalsOf, arrivalRecord, isPoint}
 use Rattle.board.specs.Quiet.{Some}
 use Rattle.board.specs.Tick.{members, playingWord, pointRecords, changeRecords, stepRecords, tickOf}
 use Rattle.board.specs.Steady.{straight}
 use Rattle.board.specs.Replay.{only}
-use Rattle.board.proofs.rules.Broken.{present-small, present-set, half-bit, unbroken-is}
+use Rattle.board.proofs.rules.Broken.{present-small, unbroken-is}
 use Rattle.board.proofs.rules.Present.{found-in}
 use Rattle.board.proofs.setup.Keeping.{set-up-whole}
-use Rattle.board.proofs.quiet.Players.{SomePlaying, some-member}
+use Rattle.board.proofs.quiet.Players.{playing-member}
+use Rattle.board.proofs.mode.Results.{mode-goes}
 use Rattle.board.proofs.lists.Reports.{tick-points}
 
 -- the info of the point of track i at l, 0 if there is none
@@ -103,25 +102,6 @@ among-arrivals b i (j ∷ is) (inr s) =
           ∙ sym (append-assoc first (h .0) (map (arrivalRecord b) (arrivalAt b i (arrival (trackAt (b .tracks) i))) ++ h .1)),
     )
 
--- a present track that plays is a member
-playing-at : (P : ℕ → Type 0) (n present i : ℕ) (ts : List Track) → i < length ts → present / 2 ^ i % 2 ≡ 1 → trackAt ts i .mode ≡ PLAYING → P (n + i) →
-    SomePlaying (λ m t. P m) n present ts
-unfolding SomePlaying
-playing-at P n present i [] l p m h = absurd (omega arith)
-playing-at P n present zero (t ∷ ts) l p m h =
-    let one : present % 2 ≡ 1 = ap (λ (x : ℕ). x % 2) (sym (div-one present)) ∙ p in
-    inl (simp (eq-eqb _ _ m) (omega arith), subst P (add-zero n) h)
-playing-at P n present (suc i) (t ∷ ts) l p m h =
-    let e : n + suc i ≡ suc n + i = omega arith in
-    inr (playing-at P (suc n) (present / 2) i ts (omega arith) (ap (λ (x : ℕ). x % 2) (half-bit present i) ∙ p) m (subst P e h))
-
--- resume of a PAUSED track, with a log in which its record, if it writes one, fits
-resumes : (b : Board) → Unbroken b → (n : ℕ) (track : ℤ) (i : ℕ) → foundIn (b .present) track ≡ natural.In i → trackAt (b .tracks) i .mode ≡ PAUSED →
-    b .held + length (callRecords b i PLAYING) ≤ capacity n → modeResult b n track RESUME ≡ changing b i PLAYING
-unfolding modeResult decided changesTo gridOf
-resumes b w n track i found paused room =
-    simp (unbroken-is b w, found, le-leb (b .held) (capacity n) (omega arith), paused, le-leb (b .held + length (callRecords b i PLAYING)) (capacity n) room)
-
 module _ (b : Board) (w : Unbroken b) (track : ℤ) (i k : ℕ) (found : foundIn (b .present) track ≡ natural.In i) (c : Closing (trackAt (b .tracks) i) k) where
   inside : i < length (b .tracks)
   inside = let s = present-small (b .present) i (found-in (b .present) track found) in omega (arith, w .shape .tracks)
@@ -153,8 +133,8 @@ module _ (b : Board) (w : Unbroken b) (track : ℤ) (i k : ℕ) (found : foundIn
     track-is = ap (λ (x : Board). trackAt (x .tracks) i) turned-is ∙ getD-set-same (b .tracks) i left noTrack inside
 
     goes-on : modeResult u n track RESUME ≡ changing u i PLAYING
-    unfolding left
-    goes-on = resumes u whole n track i here (ap (λ (x : Track). x .mode) track-is) room
+    unfolding left gridOf
+    goes-on = mode-goes u whole n track i RESUME PLAYING here (ap (λ (x : Track). gridOf (x .mode) RESUME) track-is) room
 
     plays : trackAt (changing u i PLAYING .board .tracks) i ≡ resumed (trackAt (b .tracks) i) k
     unfolding left
@@ -175,10 +155,8 @@ module _ (b : Board) (w : Unbroken b) (track : ℤ) (i k : ℕ) (found : foundIn
         let t = trackAt (b .tracks) i in
         let x = changing u i PLAYING .board in
         let long : length (x .tracks) ≡ trackCount = length-set (u .tracks) i (entered (trackAt (u .tracks) i) PLAYING) ∙ whole .shape .tracks in
-        let bit : u .present / 2 ^ i % 2 ≡ 1 = present-set (u .present) i (found-in (u .present) track here) in
         let on : trackAt (x .tracks) i .mode ≡ PLAYING = ap (λ (y : Track). y .mode) (plays ∙ resumed-is t k c) in
-        let small : i < length (x .tracks) = omega (arith, long, inside, w .shape .tracks) in
-        let member = some-member (λ j y. j ≡ i) (u .present) (x .tracks) long (playing-at (λ j. j ≡ i) 0 (u .present) i (x .tracks) small bit on (zero-add i)) in
+        let member = playing-member (u .present) i (x .tracks) long (found-in (u .present) track here) on in
         let report : Board → List Record = λ y. pointRecords (y .clock .0 + 1) i (t .position .0) (t .passes .0) (infoThere y i (t .position .0)) in
         let told = closing-reported t k c x i plays ∙ ap report turned-is in
         let held = among-arrivals x i (members (playingWord (u .present) (x .tracks))) member in

@@ -17,16 +17,19 @@ use Rattle.board.specs.declared.Board.{Board}
 use Rattle.board.specs.declared.log.Record.{Record}
 use Rattle.board.specs.declared.setup.Outcome.{Outcome}
 use Rattle.board.proofs.tick.Staging.{length-log, write-none}
-use Rattle.board.specs.Board.{noTrack, trackAt}
+use Rattle.board.specs.Board.{noTrack, trackAt, foundIn, Unbroken}
 use Rattle.board.specs.Setup.{refused, accepted, boardWith}
 use Rattle.board.specs.Tick.{recordOf, changeRecords}
-use Rattle.board.specs.Mode.{ModeResult, declined, callRecords, changesTo, modeResult, outcomeOf}
+use Rattle.board.specs.Mode.{ModeResult, declined, callRecords, changing, changesTo, decided, modeResult, outcomeOf}
 use Rattle.board.specs.declared.mode.ModeChange.{ModeChange}
 use Rattle.board.specs.Replay.{World, flat}
 use Rattle.board.specs.declared.call.Call.the-variants as call
-use Rattle.track.specs.Grid.{PLAY, PAUSE, RESUME, STOP}
+use Rattle.track.specs.Grid.{PLAY, PAUSE, RESUME, STOP, gridOf}
+use Rattle.track.specs.declared.grid.Decision.the-variants as decision
+use Rattle.track.specs.declared.number.Natural.the-variants as natural
 use Rattle.board.specs.Call.{Reply, answered, gridstep, runCount, saysOf, makesOf, does, modeDoes, world, Gives}
 use Rattle.board.proofs.replay.Replays.{sets-write}
+use Rattle.board.proofs.rules.Broken.{unbroken-is}
 use Rattle.board.proofs.call.Machine.{flat-is, result-ways}
 
 -- an outcome, and the log before and after it, follow a result: the records go behind the held ones, and held grows by them
@@ -80,6 +83,14 @@ module _ (w : World Board) {told given : ℤ} {a : Reply} {b : Board} {log : Lis
   pub stop-gives : Gives (modeDoes STOP told w) a b log → Gives (does (call.Stop given) w) a b log
   unfolding modeDoes runCount saysOf makesOf
   stop-gives g = subst (λ (t : ℤ). Gives (does (call.Stop t) w) a b log) e g
+
+-- what the grid lets act is accepted on an unbroken board, if its record, where it writes one, fits
+pub mode-goes : (b : Board) → Unbroken b → (n : ℕ) (track : ℤ) (i code mode : ℕ) → foundIn (b .present) track ≡ natural.In i →
+    gridOf (trackAt (b .tracks) i .mode) code ≡ decision.Goes mode → b .held + length (callRecords b i mode) ≤ capacity n →
+    modeResult b n track code ≡ changing b i mode
+unfolding modeResult decided changesTo
+mode-goes b w n track i code mode found goes fits =
+    rw (unbroken-is b w, le-leb (b .held) (capacity n) (omega arith), found, goes, le-leb _ (capacity n) fits)
 
 -- ---- the ways out
 

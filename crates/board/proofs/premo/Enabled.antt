@@ -29,6 +29,7 @@ use Rattle.board.specs.premo.Automaton.{doRESUME, doSTOP, exc, offers}
 use Rattle.board.specs.premo.Acts.{modeOf, isNumber, isOn, deedOf, isRefusal, callActs, Brings}
 use Rattle.board.specs.premo.Published.{raises, Fits}
 use Rattle.board.proofs.call.Refusals.{silent}
+use Rattle.board.proofs.mode.Results.{mode-goes}
 use Rattle.board.proofs.premo.Calls.{result-cases, present-mode}
 
 -- ---- mode calls on a present track
@@ -58,8 +59,7 @@ module _ (w : World Board) (whole : Unbroken (w .board)) (i : ℕ) (present : is
 
   -- what the grid lets act is accepted, if its record fits
   goes : (c m : ℕ) → gridOf (t .mode) c ≡ decision.Goes m → Fits i m w → chosen c ≡ changing b i m
-  unfolding modeResult decided changesTo
-  goes c m g fits = rw (unbroken-is b whole, le-leb (b .held) (capacity n) (omega arith), found, g, le-leb _ (capacity n) fits)
+  goes c m g fits = mode-goes b whole n (pos i) i c m found g fits
 
   -- and is not refused 2, whether it fits or not
   not-2 : (c m : ℕ) → gridOf (t .mode) c ≡ decision.Goes m → answered (chosen c .answer) ≡ refused 2 → ⊥

@@ -15,7 +15,7 @@ use Rattle.track.specs.declared.Track.{Track}
 use Rattle.track.specs.Rule.{PLAYING}
 use Rattle.board.specs.Points.{trackCount}
 use Rattle.board.specs.Board.{noTrack, trackAt, isPresent}
-use Rattle.board.proofs.rules.Broken.{present-bit, half-bit}
+use Rattle.board.proofs.rules.Broken.{present-bit, present-small, present-set, half-bit}
 use Rattle.board.specs.Tick.{keep, membersFrom, members, playBit, playingWord}
 use Rattle.board.specs.Replay.{Each}
 use Rattle.board.proofs.tick.PlayingLaws.{bit-small}
@@ -197,3 +197,21 @@ members-present present ts l =
     each-member (λ k t. (t .mode ≡ PLAYING) × (isPresent present k ≡ true)) present ts l
     (all-playing (λ k. isPresent present k ≡ true) 0 present ts
     (λ j m e. rw (zero-add j) (sym (present-bit present j (omega arith)) ∙ eq-eqb _ 1 e)))
+
+-- a track that plays and whose bit is set is one of them
+one-playing : (Q : ℕ → Type 0) (n word i : ℕ) (ts : List Track) → i < length ts → word / 2 ^ i % 2 ≡ 1 → trackAt ts i .mode ≡ PLAYING → Q (n + i) →
+    SomePlaying (λ k t. Q k) n word ts
+unfolding SomePlaying
+one-playing Q n word i [] l e m q = absurd (omega arith)
+one-playing Q n word zero (t ∷ ts) l e m q =
+    let set : word % 2 ≡ 1 = ap (λ (x : ℕ). x % 2) (sym (div-one word)) ∙ e in
+    inl (simp (eq-eqb _ _ m) (omega arith), subst Q (add-zero n) q)
+one-playing Q n word (suc i) (t ∷ ts) l e m q =
+    inr (one-playing Q (suc n) (word / 2) i ts (omega arith) (ap (λ (x : ℕ). x % 2) (half-bit word i) ∙ e) m (subst Q (add-suc n i ∙ sym (suc-add n i)) q))
+
+-- and the other way: a track that is present and PLAYING is a member
+pub playing-member : (present i : ℕ) (ts : List Track) → length ts ≡ trackCount → isPresent present i ≡ true → trackAt ts i .mode ≡ PLAYING →
+    Some (λ k. k ≡ i) (members (playingWord present ts))
+playing-member present i ts l p m =
+    let small = present-small present i p in
+    some-member (λ k t. k ≡ i) present ts l (one-playing (λ k. k ≡ i) 0 present i ts (omega arith) (present-set present i p) m (zero-add i))
