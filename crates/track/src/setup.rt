@@ -5,7 +5,8 @@ use crate::number::Natural;
 use crate::number::Place;
 use crate::number::in_range;
 ghost use mathlib.Core.Path.{_≡_};
-ghost use Rattle.track.specs.Setup.{refused, accepted, settled, permits, startSet, endSet, loopsSet, repeatSet, closes, turnedTo, directionSet, actionSet, jumpTo, changedBy};
+ghost use Rattle.track.specs.Setup.{refused, accepted, settled, permits, startSet, endSet, loopsSet, repeatSet};
+ghost use Rattle.track.specs.Setup.{closes, turnedTo, directionSet, actionSet, jumpTo, changedBy};
 
 // A set-up change with the numbers of its call.
 pub enum Change {
