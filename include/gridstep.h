@@ -1,6 +1,6 @@
 /*
  * GridStep sequence board: the C interface of libfirmware.a (crates/firmware). "01" is the specification, with the
- * followers (request 2.1) and the turns on home (2.3) of "02".
+ * followers (request 2.1), the turns on home (2.3) and the rates (2.4) of "02".
  *
  * The firmware keeps one board and one log. A board is made by gridstep_new, and lent by pointer to the mode calls
  * and to advance; every other call goes through gridstep_call, but for master, which is gridstep_master. No function
@@ -45,8 +45,17 @@ enum {
  * the master call, which makes it none.
  * Its rules: thresholds 1 to 1,000,000, each above the one before, unused ones 0 and last; the event beside a
  * threshold 1 to 255, beside an unused one 0; the master is another track that is present, and 0 without thresholds;
- * the band is at most the number of thresholds, and 0 at clock 0. */
+ * the band is at most the number of thresholds, and 0 at clock 0.
+ *
+ * A track's rate is p steps in q ticks (`steps` and `ticks`): at 1 in 1 it makes a step in every tick that it plays, at
+ * 1 in 3 in every third. In each tick that it is PLAYING at the start of, p is added to the remainder; at q or more, q
+ * is taken off and one step made. In a tick without a step the track stays as it is but for the remainder: nothing is
+ * reached or reported, and due stays. Followers are judged at the end of every tick all the same. Where a track is
+ * rewound the remainder becomes 0; pause, wait, resume, a jump and a turn while PAUSED keep it. A track that a point's
+ * command starts plays from the next tick on. So at 2 in 5 the steps from rest are in ticks 3 and 5, 8 and 10, ...
+ * Its rules: 1 <= steps <= ticks <= 1,000; remainder below ticks, and 0 when STOPPED. */
 #define GRIDSTEP_THRESHOLDS 4
+#define GRIDSTEP_RATE_MOST 1000
 
 struct gridstep_track {
     uint32_t min, max;   /* bounds, + 1,000,000 */
@@ -63,7 +72,9 @@ struct gridstep_track {
     uint8_t master;      /* the track that this one follows; 0 where it follows none */
     uint8_t band;        /* the band held: 0 none, else the number of the threshold, counted from 1 */
     uint32_t thresholds[GRIDSTEP_THRESHOLDS]; /* rising; 0 where unused */
-    uint32_t events[GRIDSTEP_THRESHOLDS];     /* beside each threshold its event; 0 where unused */
+    uint16_t events[GRIDSTEP_THRESHOLDS];     /* beside each threshold its event; 0 where unused */
+    uint16_t steps, ticks; /* the rate: so many steps in so many ticks; 1 in 1 for a new track */
+    uint32_t remainder;    /* grows by steps in each tick played; at ticks or more, ticks is taken off and a step made */
 };
 
 /* The points. Slots from count on are never read.
@@ -100,7 +111,7 @@ struct gridstep_board {
 #define GRIDSTEP_RECORD 16
 
 /* Refusals. A refused call leaves board and log as they were. Where several hold, the first in the order
- * 9, 3 (broken board), 7, 1, 6, 2, 3, 10, 4, 5, 8 is told. */
+ * 9, 3 (broken board), 7, 1, 6, 2, 3 or 11, 10, 4, 5, 8 is told. */
 enum {
     GRIDSTEP_ACCEPTED = 0,
     GRIDSTEP_ABSENT = 1,      /* number not 0 to 15 or, but for add track, track absent */
@@ -112,7 +123,8 @@ enum {
     GRIDSTEP_CAPACITY = 7,    /* capacity below held (advance and the four mode calls) */
     GRIDSTEP_NO_ROOM = 8,     /* the mode call's record doesn't fit */
     GRIDSTEP_GRAMMAR = 9,     /* line not in the grammar; here: a row that is no call */
-    GRIDSTEP_RISING = 10      /* thresholds that aren't rising, or over four */
+    GRIDSTEP_RISING = 10,     /* thresholds that aren't rising, or over four */
+    GRIDSTEP_RATE = 11        /* a rate out of its range, in the place of 3 */
 };
 
 /* How an advance ended. */
@@ -154,6 +166,7 @@ struct gridstep_ending gridstep_advance(struct gridstep_board *board, int64_t co
  *    9 action       track, from, to, event     20 query: how many      track, from, to (positions, both counted)
  *   10 jump         track, position            21 master   track, master, number of pairs, then five pairs of threshold
  *                                                          and event
+ *                                              22 rate     track, steps, ticks (STOPPED only; does not rewind)
  * Of the pairs of a master call, only as many are read as their number says; five or more are over four, and the
  * row's five decide if a number is out of its range. A row with any other code is no call, nor is a master call with
  * a negative number of pairs: it is refused 9. Code 21 counts in gridstep_run only; in gridstep_call it is refused 9.
@@ -169,7 +182,7 @@ struct gridstep_ending gridstep_advance(struct gridstep_board *board, int64_t co
  *   4 ClockEnd     ticks taken
  *   5 clock        clock, held
  *   6 a track      min, max, start, end, position (each + 1,000,000), passes, loops, mode, direction, repeat, due, the
- *                  sixteen actions, master, band, the four thresholds and their four events
+ *                  sixteen actions, master, band, the four thresholds and their four events, steps, ticks, remainder
  *   7 a point      track, position + 1,000,000, event, wait, command, target
  *   8 how many     the number of points
  */

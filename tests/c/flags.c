@@ -5,7 +5,7 @@
 #include <stdlib.h>
 #include <string.h>
 
-enum { LOG = 64, FLAGS = 3, MODES = 4, VALUES = 256, CODES = 20, PAIRS = 2 };
+enum { LOG = 64, FLAGS = 3, MODES = 4, VALUES = 256, CODES = 22, MASTER = 21, PAIRS = 2 };
 
 static const char *const names[FLAGS] = {"direction", "repeat", "due"};
 static unsigned long tried;
@@ -31,8 +31,8 @@ static uint8_t *flag_of(struct gridstep_track *t, int flag)
 /* The bytes of every field; those between fields mean nothing. A track has none between its own. */
 static int same(const struct gridstep_board *a, const struct gridstep_board *b)
 {
-    return !memcmp(a->tracks, b->tracks, sizeof a->tracks) && !memcmp(&a->points, &b->points, sizeof a->points) &&
-           a->present == b->present && a->clock == b->clock && a->held == b->held;
+    return !memcmp(a->tracks, b->tracks, sizeof a->tracks) && !memcmp(&a->points, &b->points, sizeof a->points) && a->present == b->present &&
+           a->clock == b->clock && a->held == b->held;
 }
 
 static struct gridstep_replied row(int64_t code, int64_t track)
@@ -61,6 +61,8 @@ static void refused_as_master(int64_t track, const char *flag, int value)
 static void refused_by_the_door(int64_t track, const char *flag, int value)
 {
     for (int64_t code = 1; code <= CODES; code++) {
+        if (code == MASTER)
+            continue;
         struct gridstep_replied r = row(code, track);
         expect(r.reply[0] == 1 && r.reply[1] == GRIDSTEP_VALUE, "a call by its row is not refused 3", flag, value);
         expect(same(&r.board, &was), "a call by its row changed the board", flag, value);
@@ -117,7 +119,7 @@ static void set_up(void)
         expect(r.reply[0] == 0 && r.board.tracks[track].thresholds[1] == 5, "a master call is refused", "no flag", 0);
         board = r.board;
     }
-    expect(row(21, 0).reply[1] == GRIDSTEP_GRAMMAR, "master by its code is a call", "no flag", 0);
+    expect(row(MASTER, 0).reply[1] == GRIDSTEP_GRAMMAR, "master by its code is a call", "no flag", 0);
 }
 
 int main(void)

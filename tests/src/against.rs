@@ -4,8 +4,9 @@
 use crate::bench::{Alike, Begun};
 use crate::call::{Board, Call, Call::*, Reply, Reply::Refused};
 use crate::gen::{Case, PROFILES, Profile, Rng, case, recut};
-use crate::lists::{Found, Tally, merged, observed};
+use crate::lists::{merged, observed};
 use crate::model::Model;
+use crate::tally::{Found, Tally};
 
 /// What the model came to over a list: its answers, its end board and its log.
 pub struct Told {
@@ -81,7 +82,7 @@ pub fn agree<B: Alike>(board: &mut B, model: &mut Model, call: Call, log: &[u8])
 /// Each call is lent some part of the log, so that 7 comes.
 pub fn other_logs<B: Alike>() {
     let (mut short, mut calls) = (0, 0);
-    for (seed, profile) in (0..800).zip(PROFILES[..8].iter().cycle()) {
+    for (seed, profile) in (0..800).zip(PROFILES[..9].iter().cycle()) {
         let mut rng = Rng(seed);
         let case = case(*profile, seed + 70_000);
         let (mut board, mut model) = (B::begun(case.clock), Model::begun(case.clock));
@@ -101,15 +102,16 @@ pub fn other_logs<B: Alike>() {
     assert!(short > 500);
 }
 
-/// A pass over two million locations and more, in single ticks and in one leap.
+/// A pass over two million locations, or nearly, at some rates: in single ticks and in one leap.
 pub fn long_leaps<B: Alike>() {
-    for direction in [0, 1] {
+    for (direction, p, q) in [(0, 1, 1), (1, 1, 1), (0, 999, 1_000), (1, 6, 7)] {
         let (mut board, mut model) = (B::fresh(), Model::fresh());
         let log = vec![0; 160];
         let calls = [Track(2, -1_000_000, 1_000_000), Track(9, 5, 6), Repeat(9, 1), Action(2, 1, 0, 3)];
         let more = [Direction(2, direction), Point(2, 1_000_000, 5, 0, 1, 9), Point(2, -999_999, 6, 0, 3, 9)];
+        let rates = [Rate(2, p, q), Rate(9, 1, q)];
         let run = [Play(2), Play(9), Advance(1_999_990), Advance(1), Advance(300_000), Advance(1)];
-        for &call in calls.iter().chain(&more).chain(&run) {
+        for &call in calls.iter().chain(&more).chain(&rates).chain(&run) {
             agree(&mut board, &mut model, call, &log);
         }
     }

@@ -1,4 +1,4 @@
-//! The calls of 01 and of 02's followers as values, their answers, and both as rows of numbers.
+//! The calls of 01 and of 02's followers and rates as values, their answers, and both as rows of numbers.
 
 use crate::model::Point;
 use crate::track::{THRESHOLDS, Track};
@@ -7,8 +7,8 @@ use crate::track::{THRESHOLDS, Track};
 pub const CALL_WIDTH: usize = 14;
 /// Numbers of an encoded reply.
 pub const REPLY_WIDTH: usize = 48;
-/// Numbers that tell a track: eleven fields, sixteen actions, master, band, thresholds and events.
-pub const TRACK_WIDTH: usize = 11 + 16 + 2 + 2 * THRESHOLDS;
+/// Numbers that tell a track: eleven fields, sixteen actions, master, band, thresholds and events, rate and remainder.
+pub const TRACK_WIDTH: usize = 11 + 16 + 2 + 2 * THRESHOLDS + 3;
 /// Pairs of threshold and event that an encoded call has room for: one more than are allowed.
 pub const PAIRS_MOST: usize = THRESHOLDS + 1;
 
@@ -25,6 +25,8 @@ pub mod refusal {
     pub const GRAMMAR: u8 = 9;
     /// 02, 2.1: thresholds not rising, or over four
     pub const THRESHOLDS: u8 = 10;
+    /// 02, 2.4: a rate out of its range
+    pub const RATE: u8 = 11;
 }
 
 /// The pairs of an encoded master call, threshold and event in turn. Five stand for five or more: over four.
@@ -86,6 +88,8 @@ pub enum Call {
     Count(i64, i64, i64),
     /// track, master, and the follower's pairs
     Master(i64, i64, Pairs),
+    /// track, steps, ticks
+    Rate(i64, i64, i64),
 }
 
 /// A row of so many numbers, zeros after.
@@ -124,6 +128,7 @@ impl Call {
                 row[4..].copy_from_slice(&pairs.numbers);
                 row
             }
+            Call::Rate(t, p, q) => row(&[22, t, p, q]),
         }
     }
 
@@ -152,6 +157,7 @@ impl Call {
             19 => Call::ShowPoint(a, b),
             20 => Call::Count(a, b, c),
             21 => Call::Master(a, b, Pairs::decode(c, row[4..].as_array()?)?),
+            22 => Call::Rate(a, b, c),
             _ => return None,
         })
     }
@@ -226,7 +232,8 @@ fn track_values(track: &Track) -> Vec<u64> {
     let others = [track.passes, track.loops, track.mode, track.direction, track.repeat, track.due];
     let cells = track.actions.as_flattened();
     let followed = [&[track.master, track.band], &track.thresholds[..], &track.events].concat();
-    positions.iter().chain(&others).chain(cells).chain(&followed).map(|&n| n as u64).collect()
+    let rate = [track.steps, track.ticks, track.remainder];
+    positions.iter().chain(&others).chain(cells).chain(&followed).chain(&rate).map(|&n| n as u64).collect()
 }
 
 /// A track by the numbers that its reply has.
@@ -237,8 +244,9 @@ pub fn track_of(numbers: &[u64; TRACK_WIDTH]) -> Track {
     let actions = std::array::from_fn(|from| std::array::from_fn(|to| numbers[11 + from * 4 + to]));
     let [master, band] = std::array::from_fn(|at| numbers[27 + at]);
     let [thresholds, events] = [29, 29 + THRESHOLDS].map(|from| std::array::from_fn(|at| numbers[from + at]));
+    let [steps, ticks, remainder] = std::array::from_fn(|at| numbers[29 + 2 * THRESHOLDS + at]);
     let walk = Track { start, end, position, passes, loops, mode, direction, repeat, due, ..Track::new(min, max) };
-    Track { actions, master, band, thresholds, events, ..walk }
+    Track { actions, master, band, thresholds, events, steps, ticks, remainder, ..walk }
 }
 
 fn point_values(track: i64, position: i64, point: &Point) -> Vec<u64> {
@@ -265,6 +273,8 @@ pub trait Board: Sized {
     fn jump(&mut self, t: i64, p: i64) -> Reply;
     /// `numbers` are pairs of threshold and event, any number of them.
     fn master(&mut self, t: i64, m: i64, numbers: &[i64]) -> Reply;
+    /// p steps in q ticks.
+    fn rate(&mut self, t: i64, p: i64, q: i64) -> Reply;
     fn mode_call(&mut self, command: i64, t: i64, log: &mut [u8]) -> Reply;
     fn advance(&mut self, count: i64, log: &mut [u8]) -> Reply;
     fn clear(&mut self) -> Reply;
@@ -296,6 +306,7 @@ pub trait Board: Sized {
             Call::ShowPoint(t, p) => self.show_point(t, p),
             Call::Count(t, a, b) => self.count(t, a, b),
             Call::Master(t, m, pairs) => self.master(t, m, pairs.numbers()),
+            Call::Rate(t, p, q) => self.rate(t, p, q),
         }
     }
 

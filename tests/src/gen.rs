@@ -4,6 +4,7 @@
 mod cut;
 mod pairs;
 mod plan;
+mod rates;
 mod turns;
 
 use crate::call::{Board, Call, Reply};
@@ -60,6 +61,8 @@ struct Maker {
     calls: Vec<Call>,
     /// the reach that tracks of one length have
     alike: i64,
+    /// the rate that tracks of one rate have
+    one_rate: [i64; 2],
 }
 
 pub fn case(profile: Profile, seed: u64) -> Case {
@@ -69,8 +72,8 @@ pub fn case(profile: Profile, seed: u64) -> Case {
         Profile::SmallLog if rng.chance(60) => rng.between(0, 80),
         Profile::Followers if rng.chance(25) => rng.between(0, 80),
         Profile::Followers if rng.chance(60) => rng.between(5, 30) * 16 + rng.between(0, 15),
-        Profile::Turns if rng.chance(15) => rng.between(0, 80),
-        Profile::Turns if rng.chance(25) => rng.between(5, 14) * 16 + rng.between(0, 15),
+        Profile::Turns | Profile::Rates if rng.chance(15) => rng.between(0, 80),
+        Profile::Turns | Profile::Rates if rng.chance(25) => rng.between(5, 14) * 16 + rng.between(0, 15),
         Profile::SmallLog => rng.between(5, 14) * 16 + rng.between(0, 15),
         _ => rng.between(20, 400) * 16 + rng.between(0, 15),
     };
@@ -80,16 +83,17 @@ pub fn case(profile: Profile, seed: u64) -> Case {
     Case { clock, log, calls }
 }
 
-/// A list of so many calls after the set-up, for a fresh board and a log of so many bytes; no master call is among them,
-/// since scripts have no line for it.
+/// A list of so many calls after the set-up, for a fresh board and a log of so many bytes; no master and no rate call is
+/// among them, since scripts have no lines for these.
 pub fn long(profile: Profile, seed: u64, calls: i64, bytes: usize) -> Vec<Call> {
-    let plan = Plan { calls, masters: 0, followers: None, large: LARGE, ..plan(profile) };
+    let plan = Plan { calls, masters: 0, followers: None, rates: 0, rated: None, large: LARGE, ..plan(profile) };
     made(Rng(seed), plan, Model::fresh(), vec![0; bytes])
 }
 
 fn made(mut rng: Rng, plan: Plan, board: Model, log: Vec<u8>) -> Vec<Call> {
     let alike = rng.between(1, plan.reach);
-    let mut maker = Maker { rng, plan, board, log, calls: Vec::new(), alike };
+    let mut maker = Maker { rng, plan, board, log, calls: Vec::new(), alike, one_rate: [1, 1] };
+    maker.one_rate = maker.some_rate();
     maker.fill();
     maker.calls
 }
@@ -102,6 +106,7 @@ impl Maker {
         }
         (0..16).for_each(|t| self.prepare(t));
         self.name_masters();
+        self.set_rates();
         for _ in 0..self.rng.between(self.plan.points / 2, self.plan.points) {
             let call = if self.rng.chance(85) { self.new_point() } else { self.set_up() };
             self.push(call);
@@ -118,6 +123,9 @@ impl Maker {
             }
             if self.rng.chance(self.plan.turns) {
                 self.turn_on_an_end();
+                continue;
+            }
+            if self.rests() {
                 continue;
             }
             let call = self.draw();
@@ -255,6 +263,9 @@ impl Maker {
         if self.rng.chance(self.plan.masters) {
             return self.master();
         }
+        if self.rng.chance(self.plan.rates) {
+            return self.rate();
+        }
         let t = self.standing();
         match self.rng.between(0, 22) {
             0 => self.new_track(),
@@ -308,6 +319,9 @@ impl Maker {
     }
 
     fn advance(&mut self) -> Call {
+        if let Some(count) = self.till_a_step() {
+            return Call::Advance(count);
+        }
         let count = match self.rng.between(0, 39) {
             0..=1 => 0,
             2..=14 => 1,

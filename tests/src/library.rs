@@ -150,6 +150,10 @@ impl Board for Library {
         told(&self.master_door(t, m, numbers))
     }
 
+    fn rate(&mut self, t: i64, p: i64, q: i64) -> Reply {
+        self.change(Call::Rate(t, p, q))
+    }
+
     fn mode_call(&mut self, command: i64, t: i64, log: &mut [u8]) -> Reply {
         let call: raw::ModeCall = match command {
             1 => raw::gridstep_play,

@@ -3,7 +3,6 @@
 use crate::call::{Board, Call, Reply};
 use crate::model::{COUNT_MOST, Model};
 use crate::record::RECORD;
-use crate::track::{PAUSED, Track};
 
 /// The replay: its own board, log and row of all records written. The model goes by single ticks.
 pub struct Replay {
@@ -105,64 +104,4 @@ pub fn merged(calls: &[Call]) -> Option<Vec<Call>> {
         }
     }
     Some(list)
-}
-
-/// What a call finds on the model's board: the count held, and the track that it turns.
-pub struct Found {
-    held: usize,
-    turned: Option<(i64, Track)>,
-}
-
-impl Found {
-    pub fn by(call: Option<Call>, board: &Model) -> Found {
-        let turned = match call {
-            Some(Call::Direction(t, _)) => board.track(t).map(|track| (t, *track)),
-            _ => None,
-        };
-        Found { held: board.held as usize, turned }
-    }
-
-    /// Of a flip of a PAUSED track: 0 if it left due as it was, 1 if it set it (2.3) on a span of three locations or more,
-    /// 2 if on one of two.
-    pub fn flip(&self, left: &Model) -> Option<usize> {
-        let (t, before) = self.turned?;
-        let after = left.track(t)?;
-        let flipped = before.mode == PAUSED && before.direction != after.direction;
-        let set_due = before.due == 0 && after.due == 1;
-        let two = before.start + 1 == before.end;
-        flipped.then_some(usize::from(set_due) + usize::from(set_due && two))
-    }
-}
-
-/// How often each answer's kind, each refusal and each kind of record came, and how often PAUSED tracks were flipped.
-#[derive(Debug, Default)]
-pub struct Tally {
-    pub kinds: [u32; 9],
-    pub refusals: [u32; 11],
-    pub records: [u32; 5],
-    /// flips that left due as it was, that set it on longer spans, and on spans of two locations
-    pub flips: [u32; 3],
-}
-
-impl Tally {
-    /// A call's answer, with the board and the log that it left.
-    pub fn note(&mut self, found: &Found, reply: Reply, left: &Model, log: &[u8]) {
-        let row = reply.encode();
-        self.kinds[row[0] as usize] += 1;
-        self.refusals[if row[0] == 1 { row[1] as usize } else { 0 }] += 1;
-        let records = written(log, found.held, left.held as usize);
-        records.iter().for_each(|bytes| self.records[bytes[5] as usize] += 1);
-        found.flip(left).iter().for_each(|&kind| self.flips[kind] += 1);
-    }
-
-    /// Every answer's kind came, every kind of record up to the last named, and each of these refusals.
-    pub fn assert_whole(&self, last_kind: u8, refusals: &[u8]) {
-        assert!(self.kinds.iter().all(|&times| times > 0), "an answer never came: {self:?}");
-        assert!(
-            refusals.iter().all(|&number| self.refusals[usize::from(number)] > 0),
-            "a refusal never came: {self:?}"
-        );
-        let records = &self.records[1..=usize::from(last_kind)];
-        assert!(records.iter().all(|&times| times > 0), "a kind of record never came: {self:?}");
-    }
 }

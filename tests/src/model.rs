@@ -1,12 +1,14 @@
-//! The board of 01 with 02's followers (2.1) and turns (2.3) in plain Rust: single ticks, nothing leapt, every number an
-//! i64.
+//! The board of 01 with 02's followers (2.1), turns (2.3) and rates (2.4) in plain Rust: single ticks, nothing leapt,
+//! every number an i64.
 //! "Decision n" is an entry of docs/DECISIONS.md, where 01 leaves a point open.
 
 mod stage;
 
 use crate::call::{Board, Reply, refusal};
 use crate::record::{RECORD, capacity};
-use crate::track::{BOUND, DRIFT_MOST, LOOPS_MOST, PAUSED, PLAYING, STOPPED, THRESHOLDS, Track, WAITING, flag, grid};
+use crate::track::{
+    BOUND, DRIFT_MOST, LOOPS_MOST, PAUSED, PLAYING, STOPPED, THRESHOLDS, Track, WAITING, flag, grid, rate,
+};
 use stage::Stage;
 use std::collections::BTreeMap;
 
@@ -96,12 +98,24 @@ impl Model {
 
     /// A set-up call on one track: broken 3, 1, 2, then 3 unless the values are in their ranges.
     fn change(&mut self, t: i64, modes: &[i64], fits: impl Fn(&Track) -> bool, set: impl Fn(&mut Track)) -> Reply {
+        self.change_or(refusal::VALUE, t, modes, fits, set)
+    }
+
+    /// The same with another refusal in the place of that last 3.
+    fn change_or(
+        &mut self,
+        else_refused: u8,
+        t: i64,
+        modes: &[i64],
+        fits: impl Fn(&Track) -> bool,
+        set: impl Fn(&mut Track),
+    ) -> Reply {
         let mut track = match self.allowed(t, modes) {
             Err(number) => return Reply::Refused(number),
             Ok(track) => *track,
         };
         if !fits(&track) {
-            return Reply::Refused(refusal::VALUE);
+            return Reply::Refused(else_refused);
         }
         set(&mut track);
         self.tracks[t as usize] = Some(track);
@@ -278,6 +292,11 @@ impl Board for Model {
                 Reply::Accepted
             }
         }
+    }
+
+    fn rate(&mut self, t: i64, p: i64, q: i64) -> Reply {
+        // It does not rewind; the remainder of a STOPPED track is 0 as it is.
+        self.change_or(refusal::RATE, t, &[STOPPED], |_| rate(p, q), |track| (track.steps, track.ticks) = (p, q))
     }
 
     fn mode_call(&mut self, command: i64, t: i64, log: &mut [u8]) -> Reply {

@@ -1,7 +1,8 @@
-//! The peer: the board of 01, with 02's followers and turns, in fixed-size arrays and sorted point keys, whose advance
-//! leaps (`run`).
+//! The peer: the board of 01, with 02's followers, turns and rates, in fixed-size arrays and sorted point keys, whose
+//! advance leaps (`run`).
 //! It behaves as the model does and is what speed is measured against.
 
+mod drift;
 mod pair;
 mod run;
 mod track;
@@ -9,6 +10,7 @@ mod track;
 use crate::call::{Board, Reply, refusal};
 use crate::model::{self, COUNT_MOST, Model, POINTS, TRACKS};
 use crate::record::capacity;
+use crate::track::RATE_MOST;
 use run::Out;
 pub use track::Track;
 
@@ -152,8 +154,13 @@ impl Peer {
 
     /// A set-up call on one track; `set` answers none for a value outside its range: 3.
     fn change(&mut self, t: i64, modes: u8, set: impl FnOnce(Track) -> Option<Track>) -> Reply {
+        self.change_or(refusal::VALUE, t, modes, set)
+    }
+
+    /// The same with another refusal in the place of that 3.
+    fn change_or(&mut self, wrong: u8, t: i64, modes: u8, set: impl FnOnce(Track) -> Option<Track>) -> Reply {
         let changed = self.allowed(t, modes).and_then(|number| {
-            self.tracks[number] = set(self.tracks[number]).ok_or(refusal::VALUE)?;
+            self.tracks[number] = set(self.tracks[number]).ok_or(wrong)?;
             Ok(())
         });
         accepted(changed)
@@ -330,6 +337,13 @@ impl Board for Peer {
 
     fn master(&mut self, t: i64, m: i64, numbers: &[i64]) -> Reply {
         accepted(self.set_master(t, m, numbers))
+    }
+
+    fn rate(&mut self, t: i64, p: i64, q: i64) -> Reply {
+        self.change_or(refusal::RATE, t, ONLY_STOPPED, |track| {
+            let ticks = between(q, 1, RATE_MOST)?;
+            Some(Track { steps: between(p, 1, ticks.into())? as u16, ticks: ticks as u16, ..track })
+        })
     }
 
     fn mode_call(&mut self, command: i64, t: i64, log: &mut [u8]) -> Reply {

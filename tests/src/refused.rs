@@ -17,7 +17,8 @@ pub fn set_up() -> Vec<Call> {
     [&tracks[..], &others].concat()
 }
 
-fn four_modes<B: Begun>() -> Bench<B> {
+/// Track 1 STOPPED, 2 PLAYING, 3 PAUSED, 4 WAITING.
+pub fn four_modes<B: Begun>() -> Bench<B> {
     let mut bench = Bench::<B>::new(64);
     bench.accept(&set_up());
     assert_eq!(bench.call(Advance(1)), Reply::Done(1));
@@ -200,7 +201,7 @@ pub const BROKEN: [Led; 28] = [
     Led { what: "a 0 before the last", thresholds: [3, 5, 0, 9], events: [31, 51, 0, 9], ..SOUND },
     Led { what: "event 0", events: [31, 0, 0, 0], ..SOUND },
     Led { what: "event 256", events: [31, 256, 0, 0], ..SOUND },
-    Led { what: "event of 32 bits", events: [4_294_967_295, 51, 0, 0], ..SOUND },
+    Led { what: "event of 16 bits", events: [65_535, 51, 0, 0], ..SOUND },
     Led { what: "an event beside no threshold", events: [31, 51, 7, 0], ..SOUND },
     Led { what: "the last event beside none", events: [31, 51, 0, 7], ..SOUND },
     Led { what: "an event without thresholds", events: [7, 0, 0, 0], ..FREE },
@@ -250,7 +251,7 @@ impl Lent for Library {
     fn lend(&mut self, led: &Led) -> bool {
         let track = &mut self.board.tracks[1];
         (track.master, track.band) = (led.master as u8, led.band as u8);
-        (track.thresholds, track.events) = (led.thresholds.map(|n| n as u32), led.events.map(|n| n as u32));
+        (track.thresholds, track.events) = (led.thresholds.map(|n| n as u32), led.events.map(|n| n as u16));
         self.board.clock = led.clock as u32;
         true
     }

@@ -54,7 +54,7 @@ pub fn call_of(line: &[u8]) -> Option<Call> {
     })
 }
 
-/// The line of a call, without LF; queries have none, nor has master before 2.8.
+/// The line of a call, without LF; queries have none, nor have master and rate before 2.8.
 pub fn line_of(call: Call) -> Option<String> {
     Some(match call {
         Call::Track(t, min, max) => format!("track,{t},{min},{max}"),
@@ -73,7 +73,8 @@ pub fn line_of(call: Call) -> Option<String> {
         Call::Stop(t) => format!("stop,{t}"),
         Call::Advance(n) => format!("advance,{n}"),
         Call::Clear => "clear".into(),
-        Call::Clock | Call::ShowTrack(_) | Call::ShowPoint(..) | Call::Count(..) | Call::Master(..) => return None,
+        Call::Clock | Call::ShowTrack(_) | Call::ShowPoint(..) | Call::Count(..) => return None,
+        Call::Master(..) | Call::Rate(..) => return None,
     })
 }
 

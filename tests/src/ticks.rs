@@ -77,6 +77,9 @@ fn drawn(t: i64) -> track::Track {
         band: 0,
         thresholds: [84, 99, 0, 0],
         events: [80 + t, 120 + t, 0, 0],
+        steps: 1,
+        ticks: 1,
+        remainder: 0,
     }
 }
 

@@ -1,10 +1,12 @@
-//! A track by 01, in plain Rust: its fields, the mode grid, and where a step leads.
+//! A track by 01 and 02, in plain Rust: its fields, the mode grid, when a step is made, and where it leads.
 
 pub const BOUND: i64 = 1_000_000;
 pub const LOOPS_MOST: i64 = 65_535;
 /// Thresholds of a follower, at most, and the largest of them.
 pub const THRESHOLDS: usize = 4;
 pub const DRIFT_MOST: i64 = 1_000_000;
+/// The largest number of a rate.
+pub const RATE_MOST: i64 = 1_000;
 
 pub const STOPPED: i64 = 0;
 pub const PLAYING: i64 = 1;
@@ -36,6 +38,11 @@ pub struct Track {
     pub thresholds: [i64; THRESHOLDS],
     /// beside each threshold its event, 0 beside none
     pub events: [i64; THRESHOLDS],
+    /// the rate: so many steps in so many ticks
+    pub steps: i64,
+    pub ticks: i64,
+    /// grows by the steps in each tick played, and a step takes the ticks off
+    pub remainder: i64,
 }
 
 /// The mode grid: the new mode, or none where the pair of mode and call is refused.
@@ -47,6 +54,11 @@ pub fn grid(mode: i64, command: i64) -> Option<i64> {
         (4, STOPPED | PLAYING | PAUSED | WAITING) => Some(STOPPED),
         _ => None,
     }
+}
+
+/// The range of a rate, p steps in q ticks.
+pub fn rate(p: i64, q: i64) -> bool {
+    1 <= p && p <= q && q <= RATE_MOST
 }
 
 /// A value of a flag or a direction.
@@ -73,6 +85,9 @@ impl Track {
             band: 0,
             thresholds: [0; THRESHOLDS],
             events: [0; THRESHOLDS],
+            steps: 1,
+            ticks: 1,
+            remainder: 0,
         }
     }
 
@@ -88,6 +103,17 @@ impl Track {
         self.position = self.home();
         self.due = 1;
         self.passes = 0;
+        self.remainder = 0;
+    }
+
+    /// A tick that it plays, by its rate: whether a step is made in it.
+    pub fn steps_now(&mut self) -> bool {
+        self.remainder += self.steps;
+        if self.remainder < self.ticks {
+            return false;
+        }
+        self.remainder -= self.ticks;
+        true
     }
 
     /// Rule 1 of a step: the location that it reaches.
@@ -139,6 +165,12 @@ impl Track {
         rising && ranged && events && unused && band
     }
 
+    /// A rate in its range; a remainder below its ticks, and 0 when STOPPED.
+    fn rate_unbroken(&self) -> bool {
+        let below = (0..self.ticks).contains(&self.remainder);
+        rate(self.steps, self.ticks) && below && (self.mode != STOPPED || self.remainder == 0)
+    }
+
     /// The ranges and rules of a track, no more (docs/DECISIONS.md, 1): a STOPPED track off home is not broken.
     pub fn unbroken(&self, clock: i64) -> bool {
         let bounds = -BOUND <= self.min && self.min < self.max && self.max <= BOUND;
@@ -149,6 +181,7 @@ impl Track {
         let cells = self.actions.iter().flatten().all(|event| (0..=255).contains(event));
         let diagonal = (0..4).all(|mode| self.actions[mode][mode] == 0);
         let mode = (STOPPED..=WAITING).contains(&self.mode);
-        bounds && span && place && flags && counts && cells && diagonal && mode && self.pairs_unbroken(clock)
+        let added = self.pairs_unbroken(clock) && self.rate_unbroken();
+        bounds && span && place && flags && counts && cells && diagonal && mode && added
     }
 }

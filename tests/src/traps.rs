@@ -5,10 +5,12 @@ use crate::call::Reply::{Accepted, ClockEnd, Done, LogFull, Refused};
 use crate::call::{CALL_WIDTH, Call, Call::*, Pairs, Reply};
 
 /// The codes of calls.
-pub const CODES: i64 = 21;
+pub const CODES: i64 = 22;
+/// Master's, whose second number is a track's too.
+pub const MASTER: i64 = 21;
 
 /// Each call once, with arguments that case A's board would take (master apart, which needs a second track), and once
-/// with a track that is absent; then every turn of every track.
+/// with a track that is absent; then every turn of every track, and a rate and no rate for each.
 pub fn each_call() -> Vec<Call> {
     let call = |[code, a, b, c]: [i64; 4]| {
         let mut row = [0; CALL_WIDTH];
@@ -17,7 +19,7 @@ pub fn each_call() -> Vec<Call> {
     };
     let mut calls: Vec<Call> = (1..=CODES).flat_map(|code| [call([code, 0, 3, 5]), call([code, 99, -9, 0])]).collect();
     calls.extend([Master(0, 1, Pairs::new(&[[3, 7], [5, 9]])), Master(1, 0, Pairs::NONE)]);
-    calls.extend((0..16).flat_map(|t| [Direction(t, 0), Direction(t, 1)]));
+    calls.extend((0..16).flat_map(|t| [Direction(t, 0), Direction(t, 1), Rate(t, 2, 5), Rate(t, 5, 2)]));
     calls
 }
 

@@ -1,6 +1,6 @@
 //! The model of 01's script lines: the grammar, malformed lines one by one, case A, and what is printed.
 
-use gridstep_tests::call::{Call, Call::*};
+use gridstep_tests::call::{Call, Call::*, Pairs};
 use gridstep_tests::gen::{PROFILES, case};
 use gridstep_tests::model::{COUNT_MOST, Model};
 use gridstep_tests::peer::Peer;
@@ -32,6 +32,14 @@ fn forms() {
         assert_eq!(call_of(line.as_bytes()), Some(call));
         assert_eq!(line_of(call).as_deref(), Some(line));
     }
+}
+
+/// Master and rate have no lines before 2.8.
+#[test]
+fn no_lines_yet() {
+    let lines: [&[u8]; 5] = [b"rate,0,1,2", b"rate,0", b"rate", b"master,0,1", b"master,0,1,3,31"];
+    lines.iter().for_each(|line| assert_eq!(call_of(line), None));
+    assert_eq!([Rate(0, 1, 2), Master(0, 1, Pairs::NONE)].map(line_of), [None, None]);
 }
 
 #[test]

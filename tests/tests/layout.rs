@@ -21,6 +21,7 @@ fn sizes_and_offsets() {
     let rest = offsets!(Track: loops mode direction repeat due actions);
     assert_eq!((words, rest), ([0, 4, 8, 12, 16, 20], [24, 26, 27, 28, 29, 30]));
     assert_eq!(offsets!(Track: master band thresholds events), [46, 47, 48, 64]);
+    assert_eq!(offsets!(Track: steps ticks remainder), [72, 74, 76]);
     assert_eq!(offsets!(Points: keys infos count), [0, 1024, 2048]);
     assert_eq!(offsets!(Board: tracks present points clock held), [0, 1280, 1288, 3344, 3352]);
     assert_eq!(offsets!(Ending: reason number), [0, 4]);
@@ -53,7 +54,10 @@ fn track(number: u32) -> Track {
         master: next_present(number) as u8,
         band: (number % 5) as u8,
         thresholds: [1, 0x0203 + number, 0x9_0506 + number, 1_000_000 - number],
-        events: [255 - number, 1 + number, 100 + number, 16 + number],
+        events: [255 - number, 1 + number, 100 + number, 16 + number].map(|event| event as u16),
+        steps: 0x0101 + number as u16,
+        ticks: 0x0302 + number as u16,
+        remainder: if number.is_multiple_of(4) { 0 } else { 0x0203 + number },
     }
 }
 
@@ -108,9 +112,10 @@ fn fields_are_written() {
     let more = [Call::Loops(7, 0xABCD), Call::Repeat(7, 1), Call::Direction(7, 1), Call::Jump(7, 60_001)];
     let last =
         [Call::Action(7, 0, 1, 251), Call::Action(7, 3, 2, 252), Call::Point(7, -8, 253, 1, 3, 7), Call::Play(7)];
-    // After each of the two ticks the tracks are 19,999 apart in their distances from home.
+    // At 700 in 900 the second tick makes the first step. The tracks are 19,999 apart in their distances from home, then
+    // 19,998.
     let pairs = Pairs::new(&[[1, 250], [4_096, 249], [19_999, 1], [900_000, 255]]);
-    let led = [Call::Track(2, 0, 9), Call::Master(7, 2, pairs), Call::Play(2)];
+    let led = [Call::Track(2, 0, 9), Call::Master(7, 2, pairs), Call::Play(2), Call::Rate(7, 700, 900)];
     for &call in calls.iter().chain(&more).chain(&led).chain(&last) {
         assert_eq!(library.apply(call, &mut log), Reply::Accepted);
     }
@@ -118,11 +123,12 @@ fn fields_are_written() {
     let Board { tracks, present, points, clock, held } = library.board;
     let mut actions = [0; 16];
     (actions[1], actions[14]) = (251, 252);
-    let (min, max, start, end, position) = (100_000, 1_900_000, 930_000, 1_080_000, 1_060_000);
+    let (min, max, start, end, position) = (100_000, 1_900_000, 930_000, 1_080_000, 1_060_001);
     let (passes, loops, mode, direction, repeat, due) = (0, 0xABCD, 1, 1, 1, 0);
     let (master, band, thresholds, events) = (2, 2, [1, 4_096, 19_999, 900_000], [250, 249, 1, 255]);
     let walk = Track { min, max, start, end, position, passes, loops, mode, direction, repeat, due, ..tracks[7] };
-    let expected = Track { actions, master, band, thresholds, events, ..walk };
+    let (steps, ticks, remainder) = (700, 900, 500);
+    let expected = Track { actions, master, band, thresholds, events, steps, ticks, remainder, ..walk };
     assert_eq!((tracks[7], present, clock, held), (expected, 1 << 7 | 1 << 2, 2, 2));
     let info = 253 + 65_536 + 131_072 * 3 + 1_048_576 * 7;
     assert_eq!((points.keys[0], points.infos[0], points.count), (7 * 2_097_152 + 999_992, info, 1));

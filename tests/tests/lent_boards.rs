@@ -6,11 +6,12 @@ use gridstep_tests::call::{Board, CALL_WIDTH, Call::*, Reply, Reply::Refused};
 use gridstep_tests::gen::{Profile, Rng, case};
 use gridstep_tests::library::{DOOR_WIDTH, Library, raw};
 use gridstep_tests::model::Model;
+use gridstep_tests::rates;
 use gridstep_tests::refused::{BROKEN, STANDING, lent};
-use gridstep_tests::traps::{CODES, each_call};
+use gridstep_tests::traps::{CODES, MASTER, each_call};
 
 /// By the door no calls: a code that is none, and master, whose pairs have no place there.
-const NO_CALLS: [[i64; DOOR_WIDTH]; 3] = [[22, 0, 0, 0, 0, 0, 0], [21, 1, 0, 0, 0, 0, 0], [21, 1, 0, 1, 3, 31, 0]];
+const NO_CALLS: [[i64; DOOR_WIDTH]; 3] = [[23, 0, 0, 0, 0, 0, 0], [21, 1, 0, 0, 0, 0, 0], [21, 1, 0, 1, 3, 31, 0]];
 
 /// Every call refuses a broken board 3, lent or by the door, and changes nothing; what is no call is 9 even so.
 fn refuses_all(library: &Library, log: &[u8], what: &str) {
@@ -94,12 +95,41 @@ fn broken_followers_are_refused() {
     }
 }
 
+/// The rules of rates, each broken in every mode; and what is at their edge.
+#[test]
+fn broken_rates_are_refused() {
+    let broken = rates::refused::broken();
+    let held: Vec<_> =
+        broken.iter().filter_map(|paced| Some((paced, rates::refused::lent::<Library>(paced)?))).collect();
+    assert!(held.len() > 70);
+    for (paced, Bench { board, log }) in held {
+        refuses_all(&board, &log, &format!("{paced:?}"));
+    }
+    for paced in &rates::refused::standing() {
+        let Bench { board, log } = rates::refused::lent::<Library>(paced).expect("it can be held");
+        stands(&board, &board.picture(), &log);
+    }
+}
+
+/// What absent tracks hold means nothing: no rate, no remainder.
+#[test]
+fn absent_rates_stand() {
+    let sound = rates::refused::standing()[0];
+    let Bench { mut board, log } = rates::refused::lent::<Library>(&sound).expect("it can be held");
+    for paced in &rates::refused::broken() {
+        let [steps, ticks] = [paced.steps, paced.ticks].map(|n| n as u16);
+        let remainder = paced.remainder as u32;
+        board.board.tracks[9] = raw::Track { mode: paced.mode as u8, steps, ticks, remainder, ..board.board.tracks[9] };
+        stands(&board, &board.picture(), &log);
+    }
+}
+
 /// What absent tracks hold means nothing: neither as followers nor as masters of others.
 #[test]
 fn absent_followers_stand() {
     let Bench { mut board, log } = lent::<Library>(&STANDING[0]).expect("it can be held");
     for led in &BROKEN {
-        let [thresholds, events] = [led.thresholds, led.events].map(|row| row.map(|n| n as u32));
+        let (thresholds, events) = (led.thresholds.map(|n| n as u32), led.events.map(|n| n as u16));
         let (master, band) = (led.master as u8, led.band as u8);
         board.board.tracks[9] = raw::Track { master, band, thresholds, events, ..board.board.tracks[9] };
         stands(&board, &board.picture(), &log);
@@ -120,7 +150,8 @@ fn alter_track(track: &mut raw::Track, clock: u32, rng: &mut Rng) {
     let small: u8 = rng.pick(&[0, 1, 2, 3, 4, 5, 15, 16, 255]);
     let flip: u8 = rng.pick(&[1, 1, 1, 2, 128]);
     let number: u32 = rng.pick(&[0, 1, 2, 3, 4, 9, 255, 256, 1_000_000, 1_000_001, u32::MAX]);
-    match rng.between(0, 17) {
+    let rate: u16 = rng.pick(&[0, 1, 1, 2, 3, 5, 7, 999, 1_000, 1_001, u16::MAX]);
+    match rng.between(0, 22) {
         0 => track.min = near,
         1 => track.max = rng.pick(&[near, 2_000_000, 2_000_001, u32::MAX]),
         2 => track.start = near,
@@ -135,7 +166,11 @@ fn alter_track(track: &mut raw::Track, clock: u32, rng: &mut Rng) {
         11 => track.master = rng.between(0, 16) as u8,
         12 => track.band = rng.between(0, 5) as u8,
         13..=14 => track.thresholds[small as usize & 3] = number,
-        15..=16 => track.events[small as usize & 3] = number,
+        15..=16 => track.events[small as usize & 3] = number as u16,
+        17 => track.steps = rate,
+        18..=19 => track.ticks = rate,
+        20 => track.remainder = u32::from(rate),
+        21 => track.remainder = u32::from(track.ticks).wrapping_add(rng.between(-2, 1) as u32),
         _ => track.due ^= flip,
     }
 }
@@ -186,7 +221,8 @@ fn altered_boards_agree() {
     let (mut stood, mut broken) = (0, 0);
     for seed in 0..4000 {
         let mut rng = Rng(seed);
-        let profile = [Profile::Dense, Profile::Followers, Profile::Typical, Profile::Turns][seed as usize % 4];
+        let profiles = [Profile::Dense, Profile::Followers, Profile::Typical, Profile::Turns, Profile::Rates];
+        let profile = profiles[seed as usize % profiles.len()];
         let case = case(profile, seed % 60);
         let (mut library, mut log) = (Library::begun(case.clock), case.log);
         for call in case.calls {
@@ -242,7 +278,7 @@ fn extreme_numbers_agree() {
             let mut row = [0; CALL_WIDTH].map(|_| extreme(&mut rng));
             row[0] = if nth < 3 { 1 } else { code };
             row[1] = if rng.chance(70) { rng.between(0, 3) } else { row[1] };
-            row[2] = if code == CODES && rng.chance(70) { rng.between(0, 3) } else { row[2] };
+            row[2] = if code == MASTER && rng.chance(70) { rng.between(0, 3) } else { row[2] };
             let reply: Reply = model.apply_encoded(&row, &mut logs[0]);
             assert_eq!(library.by_row(&row, &mut logs[1]), reply.encode(), "seed {seed}: {row:?}");
             assert!(library.same(&model) && logs[0] == logs[1], "seed {seed}: {row:?}");

@@ -8,10 +8,10 @@ use gridstep_tests::cards;
 use gridstep_tests::followers;
 use gridstep_tests::gen::{Case, PROFILES, Profile, Rng, case};
 use gridstep_tests::library::Library;
-use gridstep_tests::lists::{Found, Tally};
 use gridstep_tests::model::Model;
 use gridstep_tests::record::{BAND, REFUSED_COMMAND};
 use gridstep_tests::refused;
+use gridstep_tests::tally::{Found, Tally};
 use gridstep_tests::ticks;
 use gridstep_tests::traps;
 use gridstep_tests::turns;
@@ -33,15 +33,29 @@ on_library! {
     refused: in_order of_any_length by_rows lent_boards;
 }
 
+/// Under names of their own, since followers have some of these too.
+mod of_rates {
+    use gridstep_tests::library::Library;
+    use gridstep_tests::rates::{self, long, refused};
+
+    on_library! {
+        rates: two_in_five one_in_many every_tick no_arrival kept_by_pause kept_by_wait kept_by_jump kept_by_turn
+            cleared_by_stop cleared_by_the_last_pass cleared_by_commands by_commands;
+        long: judged_without_a_step slow_master alternating alternating_rounds close_rates in_step_over_the_clock at_one_go
+            over_the_clock held_back cut_anew;
+        refused: setting in_order by_rows lent_boards lent_remainders;
+    }
+}
+
 /// Lists of this file begin at this seed, so that they are no other file's.
 const SEED: u64 = 1_000_000;
-/// Of a hundred lists, by profile; long lists are fewer. Lists of followers come on top, as many as all the others, and
-/// half as many of turns.
-const SHARES: [u64; 9] = [19, 6, 19, 18, 19, 18, 100, 50, 1];
+/// Of a hundred lists, by profile; long lists are fewer. Lists of followers and of rates come on top, of each as many as all
+/// the others, and half as many of turns.
+const SHARES: [u64; 10] = [19, 6, 19, 18, 19, 18, 100, 50, 100, 1];
 /// Rows that are no call's begin with these: other codes, and a master call with a negative number of pairs.
 const NO_CALLS: [[i64; 4]; 10] = [
     [0, 0, 1, 1],
-    [22, 0, 1, 1],
+    [23, 0, 1, 1],
     [-1, 0, 1, 1],
     [-11, 0, 1, 1],
     [i64::MIN, 0, 1, 1],
@@ -145,11 +159,15 @@ fn lists_agree(profile: Profile) {
     let mut refusals = vec![1, 2, 3, 4, 6, 8, 9];
     refusals.extend((profile == Profile::Full).then_some(5));
     refusals.extend(profile.has_masters().then_some(10));
+    refusals.push(11);
     compared.tally.assert_whole(if profile.has_masters() { BAND } else { REFUSED_COMMAND }, &refusals);
     // Spans of two locations are rare but among turns.
     let (kinds, flips) = if profile == Profile::Turns { (3, compared.lists) } else { (2, 0) };
     let often = compared.tally.flips[..kinds].iter().all(|&times| u64::from(times) > flips);
     assert!(often, "too few turns: {:?}", compared.tally);
+    if profile == Profile::Rates {
+        compared.tally.assert_rates(compared.lists);
+    }
 }
 
 macro_rules! profiles {
@@ -165,6 +183,7 @@ profiles! {
     lists_queries: Queries;
     lists_followers: Followers;
     lists_turns: Turns;
+    lists_rates: Rates;
     lists_full: Full;
 }
 
@@ -173,9 +192,10 @@ profiles! {
 fn every_small_log() {
     let mut compared = Compared::default();
     for length in 0..=130 {
-        let profiles = [Profile::Typical, Profile::Dense, Profile::Edges, Profile::Followers, Profile::Turns];
-        for (nth, profile) in (0..15).zip(profiles.into_iter().cycle()) {
-            let seed = 2 * SEED + length * 15 + nth;
+        let few = [Profile::Typical, Profile::Dense, Profile::Edges];
+        let profiles = few.into_iter().chain([Profile::Followers, Profile::Turns, Profile::Rates]);
+        for (nth, profile) in (0..18).zip(profiles.cycle()) {
+            let seed = 2 * SEED + length * 18 + nth;
             let Case { clock, mut log, mut calls } = case(profile, seed);
             log.truncate(length as usize);
             calls.iter_mut().for_each(|call| *call = if let Advance(201..) = call { Advance(200) } else { *call });
@@ -228,7 +248,7 @@ fn ragged(name: &str, case: &Case, rng: &mut Rng) -> usize {
 #[test]
 fn ragged_lists() {
     let (mut lists, mut calls) = (0, 0);
-    for (seed, profile) in (3 * SEED..3 * SEED + total() / 10).zip(PROFILES[..8].iter().cycle()) {
+    for (seed, profile) in (3 * SEED..3 * SEED + total() / 10).zip(PROFILES[..9].iter().cycle()) {
         let case = case(*profile, seed);
         if case.clock == 0 {
             calls += ragged(&format!("{profile:?} list {seed}"), &case, &mut Rng(seed));

@@ -5,16 +5,16 @@ use gridstep_tests::bench::{Begun, Bench};
 use gridstep_tests::call::Reply::Refused;
 use gridstep_tests::call::{Board, CALL_WIDTH, Call, Call::*};
 use gridstep_tests::gen::{PROFILES, Profile, Rng, case};
-use gridstep_tests::lists::Found;
 use gridstep_tests::model::{self, Model};
 use gridstep_tests::peer::Peer;
 use gridstep_tests::record::Record;
+use gridstep_tests::tally::Found;
 use gridstep_tests::track;
 use gridstep_tests::traps::{self, each_call};
 
 /// A code that is no call's, and a master call with a negative number of pairs.
 const NO_CALLS: [[i64; CALL_WIDTH]; 2] =
-    [[22, 0, 0, 0, 0, 0, 0, 0, 0, 0, 0, 0, 0, 0], [21, 1, 0, -1, 3, 31, 0, 0, 0, 0, 0, 0, 0, 0]];
+    [[23, 0, 0, 0, 0, 0, 0, 0, 0, 0, 0, 0, 0, 0], [21, 1, 0, -1, 3, 31, 0, 0, 0, 0, 0, 0, 0, 0]];
 
 /// Every call refuses a broken board 3 and changes nothing; what is no call is 9 even so.
 fn refuses_all(board: &Model, what: &str) {
@@ -34,7 +34,7 @@ fn set(board: &mut Model, t: i64, p: i64, [event, wait, command, target]: [i64; 
 
 #[test]
 fn broken_model_is_refused() {
-    let breaks: [(&str, Break); 28] = [
+    let breaks: [(&str, Break); 35] = [
         ("clock below", |board, _| board.clock = -1),
         ("clock above", |board, _| board.clock = 1_000_000_001),
         ("min", |_, track| track.min = -1_000_001),
@@ -54,6 +54,13 @@ fn broken_model_is_refused() {
         ("due", |_, track| track.due = 2),
         ("diagonal", |_, track| track.actions[2][2] = 1),
         ("action", |_, track| track.actions[1][2] = 256),
+        ("steps 0", |_, track| track.steps = 0),
+        ("ticks 0", |_, track| track.ticks = 0),
+        ("more steps than ticks", |_, track| track.steps = 2),
+        ("ticks 1,001", |_, track| track.ticks = 1_001),
+        ("remainder as the ticks", |_, track| (track.mode, track.ticks, track.remainder) = (2, 5, 5)),
+        ("remainder below", |_, track| (track.mode, track.remainder) = (1, -1)),
+        ("remainder when STOPPED", |_, track| (track.ticks, track.remainder) = (5, 1)),
         ("point outside", |board, _| set(board, 0, 11, [7, 0, 0, 0])),
         ("point's track absent", |board, _| set(board, 1, 2, [7, 0, 0, 0])),
         ("event 0", |board, _| set(board, 0, 2, [0, 0, 0, 0])),
@@ -96,7 +103,8 @@ fn mutate(peer: &mut Peer, rng: &mut Rng) {
     let slot = rng.between(0, peer.count.max(1) as i64 - 1) as usize;
     let near = peer.tracks[track].start.wrapping_add(rng.between(-2, 9) as u32);
     let small = rng.pick(&[0, 1, 2, 3, 4, 5, 15, 16, 255]);
-    match rng.between(0, 20) {
+    let rate = rng.pick(&[0, 1, 1, 2, 3, 5, 7, 999, 1_000, 1_001, u16::MAX]);
+    match rng.between(0, 24) {
         0 => peer.tracks[track].min = near,
         1 => peer.tracks[track].max = rng.pick(&[near, 2_000_000, 2_000_001]),
         2 => peer.tracks[track].start = near,
@@ -117,6 +125,10 @@ fn mutate(peer: &mut Peer, rng: &mut Rng) {
         17 => peer.tracks[track].band = rng.between(0, 5) as u8,
         18 => peer.tracks[track].thresholds[small as usize & 3] = rng.pick(&[0, 1, 3, 4, 9, 1_000_000, 1_000_001]),
         19 => peer.tracks[track].events[small as usize & 3] = rng.pick(&[0, 1, 255]),
+        20 => peer.tracks[track].steps = rate,
+        21 => peer.tracks[track].ticks = rate,
+        22 => peer.tracks[track].remainder = rate,
+        23 => peer.tracks[track].remainder = peer.tracks[track].ticks.wrapping_add(rng.between(-2, 1) as u16),
         _ => peer.held = rng.between(0, 300) as u64,
     }
 }
@@ -127,7 +139,8 @@ fn altered_boards_agree() {
     let (mut whole, mut broken, mut flips) = (0, 0, [0; 3]);
     for seed in 0..4000 {
         let mut rng = Rng(seed);
-        let profile = [Profile::Dense, Profile::Followers, Profile::Typical, Profile::Turns][seed as usize % 4];
+        let profiles = [Profile::Dense, Profile::Followers, Profile::Typical, Profile::Turns, Profile::Rates];
+        let profile = profiles[seed as usize % profiles.len()];
         let case = case(profile, seed % 60);
         let mut peer = Peer::begun(case.clock);
         let mut log = case.log.clone();
@@ -208,7 +221,7 @@ fn calls_encode() {
         calls.for_each(|call| assert_eq!(Call::decode(&call.encode()), Some(call)));
     }
     assert!(
-        [0, 22, -1, i64::MIN, i64::MAX, 1 << 32 | 16].iter().all(|&code| Call::decode(&[code; CALL_WIDTH]).is_none())
+        [0, 23, -1, i64::MIN, i64::MAX, 1 << 32 | 16].iter().all(|&code| Call::decode(&[code; CALL_WIDTH]).is_none())
     );
 }
 

@@ -1,7 +1,7 @@
 // A bench for boards: lines of numbers are calls, done one after another, and their replies are printed as
-// numbers. `#` begins a title. Codes 1 to 21 are the calls (board, row.rt). Other codes:
+// numbers. `#` begins a title. Codes 1 to 22 are the calls (board, row.rt). Other codes:
 //   0 L          a fresh board, and a log of L bytes, each 165
-//   30 to 47     a field set by force (poke.rt), and 53 to 56
+//   30 to 47     a field set by force (poke.rt), and 53 to 59
 //   50           the held records, then end,clock,held
 //   51 k p       a record of kind k packed at place p of the log: 0 accepted or the refusal's number, then the log
 //   52 a b       calls a to b of those since code 0 on the board at hand: the number of each, 0 accepted; an
@@ -174,7 +174,7 @@ fn step(b: Bench, code: u32, calls: &[i64], log: &mut [u8], replies: &mut [u64])
     if code < 53 {
         return call(b, calls, log, replies);
     }
-    if code < 57 {
+    if code < 60 {
         return with_poke(b, code, calls);
     }
     call(b, calls, log, replies)

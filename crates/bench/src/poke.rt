@@ -96,7 +96,18 @@ fn led(t: Track, code: u32, n: u32, place: usize) -> Track {
         53 => c.master = (n % 256) as u8,
         54 => c.band = (n % 256) as u8,
         55 => c.thresholds[place] = n,
-        _ => c.events[place] = n,
+        _ => c.events[place] = (n % 65536) as u16,
+    }
+    c
+}
+
+// Codes 57 to 59: the rate's steps and ticks, the remainder.
+fn rated(t: Track, code: u32, n: u32) -> Track {
+    let mut c = t;
+    match code {
+        57 => c.steps = (n % 65536) as u16,
+        58 => c.ticks = (n % 65536) as u16,
+        _ => c.remainder = n,
     }
     c
 }
@@ -118,8 +129,13 @@ fn with_field(b: Board, code: u32, at: usize, n: u32, cell: usize) -> Board {
         c.tracks[at] = q;
         return c;
     }
-    let r = led(t, code, n, cell);
-    c.tracks[at] = r;
+    if code <= 56 {
+        let r = led(t, code, n, cell);
+        c.tracks[at] = r;
+        return c;
+    }
+    let s = rated(t, code, n);
+    c.tracks[at] = s;
     c
 }
 

@@ -14,3 +14,4 @@ pub mod Answers
 pub mod FullCalls
 pub mod Flips
 pub mod FlipCards
+pub mod RateCards

@@ -1,3 +1,4 @@
 pub mod Staying
 pub mod Rounding
+pub mod Fine
 pub mod Bands

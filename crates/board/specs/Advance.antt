@@ -11,7 +11,7 @@ use Rattle.board.specs.declared.Board.{Board}
 use Rattle.board.specs.declared.advance.Left.{Left}
 use Rattle.board.specs.Board.{trackAt}
 use Rattle.board.specs.Tick.{members, playingWord, followWord, bandCount}
-use Rattle.board.specs.Steady.{turnsBack}
+use Rattle.board.specs.Steady.{turnsBack, lowHeld, highHeld, atEdge}
 use Rattle.board.specs.Quiet.{masterOf}
 use Rattle.board.specs.Cut.{Ran, ticks, passed}
 use Rattle.board.specs.Replay.{World, w-halt, w-step, total}
@@ -38,7 +38,7 @@ abbrev pub TakesTicks : Board → ℕ → List ℕ → Left → List ℕ → Typ
 TakesTicks b count log r log′ = Ended b (ticks (w-halt gridstep) (w-step gridstep) count (world b log)) r log′
 
 -- ---- How many turns the tick loop can still take (01, "Advance": empty stretches are leapt): told by what is still to be written and,
--- with followers, by the ticks in which a track of a pair leaves its line, not by all ticks still to be taken.
+-- with followers, by the ticks in which a track of a pair leaves its line or the pair is at an edge, not by all ticks still to be taken.
 
 -- the number of tracks that play
 abbrev pub playingCount : Board → ℕ
@@ -48,10 +48,14 @@ playingCount b = length (members (playingWord (b .present) (b .tracks)))
 abbrev pub recordsLeft : ℕ → World Board → ℕ
 recordsLeft left u = ticks (w-halt gridstep) (w-step gridstep) left u .end .board .held - u .board .held
 
--- in the next tick a track of one of these followers' pairs leaves its line
+-- in the next tick the follower t or its master m leaves its line, or they are at an edge of the band held
+abbrev pub pairLeaves : Track → Track → Bool
+pairLeaves t m = turnsBack t || (turnsBack m || atEdge (lowHeld t) (highHeld t) t m)
+
+-- so does one of these followers with its master
 unfoldable pub oneLeaves : List Track → List ℕ → Bool
 oneLeaves ts [] = false
-oneLeaves ts (i ∷ is) = turnsBack (trackAt ts i) || (turnsBack (masterOf ts i) || oneLeaves ts is)
+oneLeaves ts (i ∷ is) = pairLeaves (trackAt ts i) (masterOf ts i) || oneLeaves ts is
 
 -- 1 if it does so on a board
 unfoldable pub leaving : Board → ℕ
@@ -63,7 +67,7 @@ leavings left u = total (λ w. leaving (w .board)) (passed (w-halt gridstep) (w-
 
 -- The measure of the loop `'ticks` of `run` (src/advance.rt), with `left` ticks to do on u, where `look` says whether the next turn
 -- looks for a leap: three for each record still to be written, one for each track that plays, one for each band held, one for each tick in
--- which a track of a follower's pair leaves its line, one if the next turn doesn't look, one if a tick can still be taken.
+-- which a track of a follower's pair leaves its line or the pair is at an edge, one if the next turn doesn't look, one if a tick can still be taken.
 abbrev pub turnsLeft : Bool → ℕ → World Board → ℕ
 turnsLeft look left u =
     3 * recordsLeft left u + playingCount (u .board) + bandCount (u .board .present) (u .board .tracks) + leavings left u + cond look 0 1

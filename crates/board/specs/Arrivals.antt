@@ -4,6 +4,7 @@ use mathlib.Core.Bool.{Bool, cond}
 use mathlib.Core.List.{List, [], _∷_, _++_, map}
 use lib.Dec.{eqb}
 use Rattle.track.specs.Walk.{arrival}
+use Rattle.track.specs.Leap.{moves}
 use Rattle.board.specs.declared.Board.{Board}
 use Rattle.board.specs.declared.log.Record.{Record}
 use Rattle.board.specs.Points.{key, keysOf, infosOf, infoAt, eventOf, commandOf, targetOf}
@@ -23,10 +24,14 @@ arrivalAt b i l =
     let d = infoAt (key i l) (keysOf (b .points)) (infosOf (b .points)) in
     cond (eqb d 0) [] (record { track = i; location = l; info = d } ∷ [])
 
--- the next step of each of these tracks
+-- the arrival of track i in the next tick: none where the tick makes no step (DECISIONS 68)
+abbrev pub arrivalNext : Board → ℕ → List Arrival
+arrivalNext b i = let t = trackAt (b .tracks) i in cond (moves t) (arrivalAt b i (arrival t)) []
+
+-- of each of these tracks
 unfoldable pub arrivalsOf : Board → List ℕ → List Arrival
 arrivalsOf b [] = []
-arrivalsOf b (i ∷ is) = arrivalAt b i (arrival (trackAt (b .tracks) i)) ++ arrivalsOf b is
+arrivalsOf b (i ∷ is) = arrivalNext b i ++ arrivalsOf b is
 
 -- the arrivals in a tick of the board: its playing tracks, lowest first
 abbrev pub arrivalsIn : Board → List Arrival

@@ -38,6 +38,9 @@ noTrack =
       band = 0;
       thresholds = [];
       events = [];
+      steps = 0;
+      ticks = 0;
+      remainder = 0;
     }
 
 abbrev pub trackAt : List Track → ℕ → Track

@@ -44,7 +44,8 @@ use Rattle.board.specs.Replay.{Made, Rules, World, wrote, perform}
 use Rattle.board.specs.declared.call.Told.{Told}
 use Rattle.board.specs.declared.call.Told.the-variants as told
 
--- Every field of a track, as 01 and 02 have it: positions signed, the sixteen actions, the four thresholds and their events.
+-- Every field of a track, as 01 and 02 have it: positions signed, the sixteen actions, the four thresholds and their events, the rate and its
+-- remainder.
 pub record TrackValues : Type 0 where
   pub min : ℤ
   pub max : ℤ
@@ -62,6 +63,9 @@ pub record TrackValues : Type 0 where
   pub band : ℕ
   pub thresholds : List ℕ
   pub events : List ℕ
+  pub steps : ℕ
+  pub ticks : ℕ
+  pub remainder : ℕ
 
 abbrev pub trackValues : Track → TrackValues
 trackValues t =
@@ -82,6 +86,9 @@ trackValues t =
       band = t .band;
       thresholds = t .thresholds;
       events = t .events;
+      steps = t .steps;
+      ticks = t .ticks;
+      remainder = t .remainder;
     }
 
 -- A point, as 01 has it: its position signed, its wait flag 0 or 1.

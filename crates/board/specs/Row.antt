@@ -27,7 +27,7 @@ use Rattle.board.specs.Log.{writeAt}
 abbrev pub callWidth : ℕ
 callWidth = 14
 
--- codes 1 to 16 are the script's lines in the order of 01, 17 to 20 the queries; any other is no call of six numbers
+-- codes 1 to 16 are the script's lines in the order of 01, 17 to 20 the queries, 22 is rate (02, 2.4); any other is no call of six numbers
 abbrev pub callFrom : ℕ → ℤ → ℤ → ℤ → ℤ → ℤ → ℤ → Option Call
 callFrom n a b c d e f =
     cond (eqb n 1) (some (call.AddTrack a b c))
@@ -50,7 +50,8 @@ callFrom n a b c d e f =
     (cond (eqb n 18) (some (call.Track a))
     (cond (eqb n 19) (some (call.Point a b))
     (cond (eqb n 20) (some (call.PointCount a b c))
-    none)))))))))))))))))))
+    (cond (eqb n 22) (some (call.SetUp a (change.Rate b c)))
+    none))))))))))))))))))))
 
 abbrev pub callOf : ℤ → ℤ → ℤ → ℤ → ℤ → ℤ → ℤ → Option Call
 callOf (pos n) a b c d e f = callFrom n a b c d e f
@@ -137,9 +138,10 @@ trackNumbers t =
     ∷ t .direction
     ∷ t .repeat
     ∷ t .due
-    ∷ t .actions ++ (t .master ∷ t .band ∷ t .thresholds ++ t .events)
+    ∷ t .actions ++ (t .master ∷ t .band ∷ t .thresholds ++ (t .events ++ (t .steps ∷ t .ticks ∷ t .remainder ∷ [])))
 
--- where they stand in the row of a track, behind the reply's kind: the action cells; the master and the band; the thresholds; their events
+-- where they stand in the row of a track, behind the reply's kind: the action cells; the master and the band; the thresholds; their
+-- events; the rate and its remainder
 abbrev pub cellsAt : ℕ
 cellsAt = 12
 
@@ -151,6 +153,9 @@ thresholdsAt = 30
 
 abbrev pub eventsAt : ℕ
 eventsAt = 34
+
+abbrev pub rateAt : ℕ
+rateAt = 38
 
 abbrev pub pointNumbers : PointValues → List ℕ
 pointNumbers p = p .track ∷ coordinateAt (p .position) .0 ∷ p .event ∷ p .wait ∷ p .command ∷ p .target ∷ []

@@ -11,7 +11,8 @@ use Rattle.track.specs.declared.grid.Decision.the-variants as decision
 use Rattle.track.specs.Rule.{PLAYING, Valid, actionCell, entered, thresholdCount, eventMost}
 use Rattle.track.specs.Follow.{follows, judged, banded}
 use Rattle.track.specs.Grid.{gridOf}
-use Rattle.track.specs.Walk.{arrival, passesAt, step}
+use Rattle.track.specs.Walk.{arrival, passesAt}
+use Rattle.track.specs.Leap.{moves, played}
 use Rattle.board.specs.declared.Board.{Board}
 use Rattle.board.specs.declared.log.Record.{Record}
 use Rattle.board.specs.declared.tick.Stepped.{Stepped}
@@ -83,23 +84,25 @@ pub record Stage : Type 0 where
 abbrev pub staged : List Track → List Record → List ℕ → Stage
 staged ts rs ds = record { tracks = ts; records = rs; reached = ds }
 
--- what a step of the playing track t, number i, finds, leaves and writes: its point's record, then its mode-change record
-abbrev pub foundBy : List ℕ → List ℕ → ℕ → Track → ℕ
-foundBy keys infos i t = infoAt (key i (arrival t)) keys infos
+-- what a tick of the playing track t, number i, finds: the info of the point that its step reaches, 0 where there is none or no step is made
+unfoldable pub foundBy : List ℕ → List ℕ → ℕ → Track → ℕ
+foundBy keys infos i t = cond (moves t) (infoAt (key i (arrival t)) keys infos) 0
 
+-- and what it writes: its point's record, then its mode-change record; nothing where no step is made
 unfoldable pub stepRecords : ℕ → ℕ → Track → ℕ → List Record
 stepRecords clock i t d =
-    pointRecords clock i (arrival t) (t .passes .0) d
-    ++ changeRecords clock i t (step t (waits d) .mode) (arrival t) (passesAt t (arrival t))
+    cond (moves t)
+    (pointRecords clock i (arrival t) (t .passes .0) d
+    ++ changeRecords clock i t (played t (waits d) .mode) (arrival t) (passesAt t (arrival t))) []
 
--- what a step changes of its track, beside a number of records
+-- what a tick changes of its track, beside a number of records
 abbrev pub stepped : Track → ℕ → Stepped
-stepped t n = record { mode = t .mode; position = t .position; passes = t .passes; due = t .due; count = n }
+stepped t n = record { mode = t .mode; position = t .position; passes = t .passes; due = t .due; remainder = t .remainder; count = n }
 
 abbrev pub reachedBy : ℕ → List ℕ
 reachedBy d = cond (eqb d 0) [] (d ∷ [])
 
--- a step after which a command is to run, or the word of playing tracks changes: its point has a command, or the track plays no more
+-- a tick of a track after which a command is to run, or the word of playing tracks changes: its point has a command, or the track plays no more
 abbrev pub needsMore : ℕ → ℕ → Bool
 needsMore d mode = not (eqb (commandOf d) 0) || not (eqb mode PLAYING)
 
@@ -107,7 +110,7 @@ unfoldable pub stepMember : List ℕ → List ℕ → ℕ → ℕ → Stage → 
 stepMember keys infos clock i s =
     let t = trackAt (s .tracks) i in
     let d = foundBy keys infos i t in
-    staged (set (s .tracks) i (step t (waits d))) (s .records ++ stepRecords clock i t d) (s .reached ++ reachedBy d)
+    staged (set (s .tracks) i (played t (waits d))) (s .records ++ stepRecords clock i t d) (s .reached ++ reachedBy d)
 
 -- Its members are stepped lowest first.
 unfoldable pub stepAll : List ℕ → List ℕ → ℕ → List ℕ → Stage → Stage

@@ -12,7 +12,8 @@ use track::number::in_range;
 use track::setup::Answer;
 ghost use mathlib.Core.Path.{_≡_};
 ghost use mathlib.Core.List.{_∷_, []};
-ghost use Prim.Native.Nat.{_+_, _≤_, _<_};
+ghost use Prim.Native.Nat.{_<_};
+ghost use Rattle.track.specs.Rule.{thresholdMost, eventMost};
 ghost use Rattle.board.specs.Points.{trackCount};
 ghost use Rattle.board.specs.Setup.{numberAt, rangedTest, masterNamed, putMaster, setMaster};
 
@@ -46,16 +47,34 @@ fn ranged(pairs: &[i64]) -> bool
     true
 }
 
-// Every second number, from the first or the second on.
-fn row_of(pairs: &[i64], from: usize, most: u32) -> [u32; Track::THRESHOLDS]
-    requires { ⌜ from ≤ 1 ⌝ }
-    ensures { λ r. ⌜ r ≡ numberAt (now (pairs .entry)) from most ∷ numberAt (now (pairs .entry)) (from + 2) most
-        ∷ numberAt (now (pairs .entry)) (from + 4) most ∷ numberAt (now (pairs .entry)) (from + 6) most ∷ [] ⌝ }
+// The event in a place of the pairs.
+fn event_at(pairs: &[i64], at: usize) -> u16
+    ensures { λ r. ⌜ r ≡ numberAt (now (pairs .entry)) at eventMost ⌝ }
 {
-    let a = number_at(pairs, from, most);
-    let b = number_at(pairs, from + 2, most);
-    let c = number_at(pairs, from + 4, most);
-    let d = number_at(pairs, from + 6, most);
+    number_at(pairs, at, Track::EVENT) as u16
+}
+
+// The thresholds: every second number, from the first on.
+fn thresholds_of(pairs: &[i64]) -> [u32; Track::THRESHOLDS]
+    ensures { λ r. ⌜ r ≡ numberAt (now (pairs .entry)) 0 thresholdMost ∷ numberAt (now (pairs .entry)) 2 thresholdMost
+        ∷ numberAt (now (pairs .entry)) 4 thresholdMost ∷ numberAt (now (pairs .entry)) 6 thresholdMost ∷ [] ⌝ }
+{
+    let a = number_at(pairs, 0, Track::THRESHOLD);
+    let b = number_at(pairs, 2, Track::THRESHOLD);
+    let c = number_at(pairs, 4, Track::THRESHOLD);
+    let d = number_at(pairs, 6, Track::THRESHOLD);
+    [a, b, c, d]
+}
+
+// Their events: the numbers between.
+fn events_of(pairs: &[i64]) -> [u16; Track::THRESHOLDS]
+    ensures { λ r. ⌜ r ≡ numberAt (now (pairs .entry)) 1 eventMost ∷ numberAt (now (pairs .entry)) 3 eventMost
+        ∷ numberAt (now (pairs .entry)) 5 eventMost ∷ numberAt (now (pairs .entry)) 7 eventMost ∷ [] ⌝ }
+{
+    let a = event_at(pairs, 1);
+    let b = event_at(pairs, 3);
+    let c = event_at(pairs, 5);
+    let d = event_at(pairs, 7);
     [a, b, c, d]
 }
 
@@ -91,8 +110,8 @@ fn put_master(board: Board, track: u32, master: u32, pairs: &[i64]) -> Outcome
     if Track::PAIRED < pairs.len() {
         return refused(Answer::RISING, board);
     }
-    let thresholds = row_of(pairs, 0, Track::THRESHOLD);
-    let events = row_of(pairs, 1, Track::EVENT);
+    let thresholds = thresholds_of(pairs);
+    let events = events_of(pairs);
     if !pairs_kept(thresholds, events) {
         return refused(Answer::RISING, board);
     }

@@ -16,17 +16,17 @@ ghost use Rattle.track.specs.Rule.{Valid, clockEnd};
 ghost use Rattle.board.specs.Points.{ascendingFrom, trackCount};
 ghost use Rattle.board.specs.Tick.{members};
 ghost use Rattle.board.specs.Replay.{Each};
-ghost use Rattle.board.specs.Quiet.{NonzeroInfos, ToPoint, QuietSteps, Leapable, WithMaster, Fewest, leapInto};
+ghost use Rattle.board.specs.Quiet.{NonzeroInfos, ToPoint, QuietSteps, QuietTicks, Leapable, WithMaster, Fewest, leapInto};
 
-// The ticks before the first that reaches a point of the track, or the clock's end where its span has none: the point
+// The steps before the first that reaches a point of the track, or the clock's end where its span has none: the point
 // at the next location or the nearest further on, else the one on home or the nearest further on from there.
-fn to_point<'a>(t: Track, track: u32, keys: &'a [u32], infos: &'a [u32], n: usize) -> Ticks
+fn to_point<'a>(t: Track, track: u32, keys: &'a [u32], infos: &'a [u32], n: usize) -> u32
     requires { ⌜ Valid t ⌝ }
     requires { ⌜ track < trackCount ⌝ }
     requires { ⌜ (n ≤ length (now keys)) × (n ≤ length (now infos)) ⌝ }
     requires { ⌜ ascendingFrom 0 (take n (now keys)) ≡ true ⌝ }
     requires { ⌜ NonzeroInfos (take n (now keys)) (take n (now infos)) ⌝ }
-    ensures { λ r. ⌜ ToPoint (take n (now (keys .entry))) track t (r .0) ⌝ }
+    ensures { λ r. ⌜ ToPoint (take n (now (keys .entry))) track t r ⌝ }
 {
     let backward = t.direction == Track::BACKWARD;
     let start = t.start;
@@ -34,7 +34,7 @@ fn to_point<'a>(t: Track, track: u32, keys: &'a [u32], infos: &'a [u32], n: usiz
     let l = t.arrival();
     let here = Points::look_up(keys, infos, n, track, l, backward, start, end);
     if here.info != 0 {
-        return Ticks(0);
+        return 0;
     }
     let near = here.near;
     if let Near::At(c) = near {
@@ -48,22 +48,34 @@ fn to_point<'a>(t: Track, track: u32, keys: &'a [u32], infos: &'a [u32], n: usiz
     let next = again.near;
     match next {
         Near::At(c) => t.steps_to(c),
-        Near::Nothing => Ticks(Ticks::END),
+        Near::Nothing => Ticks::END,
     }
 }
 
-// The ticks before the first that reaches a point or stops the track, at most the clock's end.
-fn quiet_steps<'a>(t: Track, track: u32, keys: &'a [u32], infos: &'a [u32], n: usize) -> Ticks
+// The steps before the first that reaches a point or stops the track, at most the clock's end.
+fn quiet_steps<'a>(t: Track, track: u32, keys: &'a [u32], infos: &'a [u32], n: usize) -> u32
     requires { ⌜ Valid t ⌝ }
     requires { ⌜ track < trackCount ⌝ }
     requires { ⌜ (n ≤ length (now keys)) × (n ≤ length (now infos)) ⌝ }
     requires { ⌜ ascendingFrom 0 (take n (now keys)) ≡ true ⌝ }
     requires { ⌜ NonzeroInfos (take n (now keys)) (take n (now infos)) ⌝ }
-    ensures { λ r. ⌜ QuietSteps (take n (now (keys .entry))) track t (r .0) ⌝ }
+    ensures { λ r. ⌜ QuietSteps (take n (now (keys .entry))) track t r ⌝ }
 {
     let point = to_point(t, track, keys, infos, n);
     let stop = t.running();
-    Ticks(smaller(stop.0, point.0))
+    smaller(stop, point)
+}
+
+// The ticks before the one that makes such a step, at most the clock's end.
+fn quiet_ticks<'a>(t: Track, track: u32, keys: &'a [u32], infos: &'a [u32], n: usize) -> Ticks
+    requires { ⌜ Valid t ⌝ }
+    requires { ⌜ track < trackCount ⌝ }
+    requires { ⌜ (n ≤ length (now keys)) × (n ≤ length (now infos)) ⌝ }
+    requires { ⌜ ascendingFrom 0 (take n (now keys)) ≡ true ⌝ }
+    requires { ⌜ NonzeroInfos (take n (now keys)) (take n (now infos)) ⌝ }
+    ensures { λ r. ⌜ QuietTicks (take n (now (keys .entry))) track t (r .0) ⌝ }
+{
+    t.ticks_before(quiet_steps(t, track, keys, infos, n))
 }
 
 // The fewest ticks before a track in the word reaches a point or stops, at most the clock's end.
@@ -85,8 +97,8 @@ fn quiet_players<'a>(
     while 0 < left {
         let i = u16::trailing_zeros(left) as usize;
         let t = tracks[i];
-        let steps = quiet_steps(t, i as u32, keys, infos, n);
-        fewest = smaller(fewest, steps.0);
+        let ticks = quiet_ticks(t, i as u32, keys, infos, n);
+        fewest = smaller(fewest, ticks.0);
         left -= 1u16 << i;
     }
     Ticks(fewest)

@@ -17,16 +17,16 @@ ghost use mathlib.Core.Path.{_≡_};
 ghost use Prim.Native.Nat.{_+_, _*_, _≤_};
 ghost use lib.ListN.{length, drop, take};
 ghost use Rattle.board.specs.Row.{codedAs, callOf, callAt, padded, trackNumbers, pointNumbers, numbersOf, rowDoes, RowDone, callWidth, replyWidth};
-ghost use Rattle.board.specs.Row.{cellsAt, masterAt, pairsFrom, pairsIn, masterIn, plainAt};
+ghost use Rattle.board.specs.Row.{cellsAt, masterAt, rateAt, pairsFrom, pairsIn, masterIn, plainAt};
 ghost use Rattle.track.specs.Rule.{thresholdCount};
 ghost use mathlib.Core.List.{_∷_, []};
 ghost use Rattle.board.specs.Log.{writeAt};
 ghost use Rattle.board.specs.Call.{trackValues, pointValues, replyOf, Gives, world, refused};
 
-// The code of a master call in a row, and the last of those before it.
+// The codes of a master call, which only a row has, and of a rate call, the last one.
 const MASTER: u32 = 21;
 
-const LAST_PLAIN: u32 = MASTER - 1;
+const RATE: u32 = 22;
 
 // The pairs that a row has room for: one more than a track has thresholds.
 const PAIRS: u32 = Track::THRESHOLDS as u32 + 1;
@@ -44,9 +44,15 @@ pub enum Coded {
 pub fn call_of(code: i64, a: i64, b: i64, c: i64, d: i64, e: i64, f: i64) -> Coded
     ensures { λ r. ⌜ codedAs r ≡ callOf code a b c d e f ⌝ }
 {
-    let Natural::In(n) = in_range(code, 1, LAST_PLAIN) else {
+    let Natural::In(n) = in_range(code, 1, RATE) else {
         return Coded::Nothing;
     };
+    if n == RATE {
+        return Coded::Call(Call::SetUp(a, Change::Rate(b, c)));
+    }
+    if n == MASTER {
+        return Coded::Nothing;
+    }
     match n {
         1 => Coded::Call(Call::AddTrack(a, b, c)),
         2 => Coded::Call(Call::SetUp(a, Change::Start(b))),
@@ -169,8 +175,10 @@ const THRESHOLDS_AT: usize = MASTER_AT + 2;
 
 const EVENTS_AT: usize = THRESHOLDS_AT + Track::THRESHOLDS;
 
+const RATE_AT: usize = EVENTS_AT + Track::THRESHOLDS;
+
 // How many numbers of its row a track has, the kind among them.
-pub const TRACK_WIDTH: usize = EVENTS_AT + Track::THRESHOLDS;
+pub const TRACK_WIDTH: usize = RATE_AT + 3;
 
 fn wide(x: u8) -> u64
     ensures { λ r. ⌜ r ≡ x ⌝ }
@@ -270,6 +278,29 @@ fn with_four(
     row
 }
 
+// Events at the width of thresholds.
+fn widened(four: [u16; Track::THRESHOLDS]) -> [u32; Track::THRESHOLDS]
+    ensures { λ r. ⌜ r ≡ four ⌝ }
+{
+    [
+        four[0] as u32,
+        four[1] as u32,
+        four[2] as u32,
+        four[3] as u32,
+    ]
+}
+
+// Its rate and the remainder go behind these.
+fn with_rate(head: [u64; REPLY_WIDTH], steps: u16, ticks: u16, remainder: u32) -> [u64; REPLY_WIDTH]
+    ensures { λ r. ⌜ r ≡ writeAt head rateAt (steps ∷ ticks ∷ remainder ∷ []) ⌝ }
+{
+    let mut row = head;
+    row[RATE_AT] = steps as u64;
+    row[RATE_AT + 1] = ticks as u64;
+    row[RATE_AT + 2] = remainder as u64;
+    row
+}
+
 fn track_row(t: Track) -> [u64; REPLY_WIDTH]
     ensures { λ r. ⌜ r ≡ padded (6 ∷ trackNumbers (trackValues t)) ⌝ }
 {
@@ -279,7 +310,8 @@ fn track_row(t: Track) -> [u64; REPLY_WIDTH]
     let head = with_cells(track_head(t), cells);
     let named = with_band(head, t.master, t.band);
     let limited = with_four(named, THRESHOLDS_AT, thresholds);
-    with_four(limited, EVENTS_AT, events)
+    let told = with_four(limited, EVENTS_AT, widened(events));
+    with_rate(told, t.steps, t.ticks, t.remainder)
 }
 
 // The numbers of a reply, its kind first.

@@ -3,7 +3,7 @@ use track::Ticks;
 ghost use mathlib.Core.Path.{_≡_};
 ghost use mathlib.Core.Logic.{_⊎_};
 ghost use Prim.Native.Nat.{_+_, _≤_, _<_, min, max};
-ghost use Rattle.track.specs.Rule.{clockEnd, coordinateLast};
+ghost use Rattle.track.specs.Rule.{clockEnd};
 ghost use Rattle.board.specs.Stay.{Asked, Stays, Divisor, Covers, Rounds, askedMost, sumMost};
 
 // The least of a number and the clock's end.
@@ -69,7 +69,7 @@ fn leading(x: u64, y: u64, w: u64, v: u64, lo: u64, hi: u64) -> Ticks
 }
 
 // The greatest number that divides both, by Euclid.
-fn divisor(a: u32, b: u32) -> u32
+fn divisor(a: u64, b: u64) -> u64
     requires { ⌜ 0 < a ⌝ }
     ensures { λ r. ⌜ Divisor a b r ⌝ }
 {
@@ -86,9 +86,9 @@ fn divisor(a: u32, b: u32) -> u32
 // Two that go round l places from p and round k places from q: the clock's end if they never leave the range, else 0.
 // Modulo the greatest divisor g of l and k the first is always c ahead, and the second d: c + d is g, or both are 0. So
 // where the first is ahead, it is so by c to l - g + c, and the second by d to k - g + d.
-pub(crate) fn rounds(p: u32, q: u32, l: u32, k: u32, lo: u32, hi: u32) -> Ticks
-    requires { ⌜ (0 < l) × (l ≤ coordinateLast + 1) ⌝ }
-    requires { ⌜ (0 < k) × (k ≤ coordinateLast + 1) ⌝ }
+pub(crate) fn rounds(p: u64, q: u64, l: u64, k: u64, lo: u64, hi: u64) -> Ticks
+    requires { ⌜ (0 < l) × (l ≤ askedMost) ⌝ }
+    requires { ⌜ (0 < k) × (k ≤ askedMost) ⌝ }
     ensures { λ r. ⌜ Rounds p q l k lo hi (r .0) ⌝ }
 {
     let g = divisor(l, k);
@@ -104,9 +104,9 @@ pub(crate) fn rounds(p: u32, q: u32, l: u32, k: u32, lo: u32, hi: u32) -> Ticks
 }
 
 // The clock's end if the numbers from c to c + v and from d to d + w are all in the range, else 0.
-fn ends(c: u32, v: u32, d: u32, w: u32, lo: u32, hi: u32) -> Ticks
-    requires { ⌜ (c ≤ coordinateLast + 1) × (v ≤ coordinateLast) ⌝ }
-    requires { ⌜ (d ≤ coordinateLast + 1) × (w ≤ coordinateLast) ⌝ }
+fn ends(c: u64, v: u64, d: u64, w: u64, lo: u64, hi: u64) -> Ticks
+    requires { ⌜ (c ≤ askedMost) × (v ≤ askedMost) ⌝ }
+    requires { ⌜ (d ≤ askedMost) × (w ≤ askedMost) ⌝ }
     ensures { λ r. ⌜ Covers c v d w lo hi (r .0) ⌝ }
 {
     if c < lo {

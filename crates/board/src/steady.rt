@@ -6,6 +6,7 @@ use crate::stay::stay;
 use track::Coordinate;
 use track::Ticks;
 use track::Track;
+use track::follow::apart;
 ghost use mathlib.Core.Path.{_≡_};
 ghost use mathlib.Core.Logic.{_⊎_};
 ghost use mathlib.Core.Bool.{true};
@@ -13,7 +14,7 @@ ghost use Prim.Native.Nat.{_+_, _≤_};
 ghost use lib.ListN.{length};
 ghost use Rattle.track.specs.Rule.{Valid, STOPPED, coordinateLast, thresholdMost};
 ghost use Rattle.track.specs.Follow.{upToZero, thresholdsOf, lowOf, highOf, pairsTest};
-ghost use Rattle.board.specs.Steady.{BandRow, straight, pace, least, width, Drifts, Holds, Steadies};
+ghost use Rattle.board.specs.Steady.{BandRow, straight, still, fine, fineMost, pace, least, width, Drifts, Holds, Steadies};
 
 // How many ticks the band of the follower t of the master m stays, whatever it holds now.
 pub(crate) fn steady(t: Track, m: Track) -> Ticks
@@ -90,26 +91,31 @@ fn within_band(t: Track, m: Track, lo: u32, hi: u32) -> Ticks
     let first = one_anywhere(t, m, lo, hi);
     let second = one_anywhere(m, t, lo, hi);
     let round = in_step(t, m, lo, hi);
-    Ticks(greater(greater(greater(lines.0, first.0), second.0), round.0))
+    let rest = unmoved(t, m, lo, hi);
+    Ticks(greater(
+        greater(greater(greater(lines.0, first.0), second.0), round.0),
+        rest.0,
+    ))
 }
 
-// Each goes one further in each tick, or stands.
+// Each goes on evenly in parts of a location, as many as the two rates have ticks, or stands.
 fn line(t: Track, m: Track, lo: u32, hi: u32) -> Ticks
     requires { ⌜ Valid t ⌝ }
     requires { ⌜ Valid m ⌝ }
     requires { ⌜ (lo ≤ thresholdMost + 1) × (hi ≤ coordinateLast) ⌝ }
     ensures { λ r. ⌜ Holds lo hi t m (r .0) ⌝ }
 {
-    let x = t.distance();
-    let y = m.distance();
+    let q = t.ticks as u64;
+    let k = m.ticks as u64;
+    let parts = q * k;
     let ticks = stay(
-        x as u64,
-        y as u64,
+        fine(t) * k,
+        fine(m) * q,
         0,
-        pace(t),
-        pace(m),
-        lo as u64,
-        hi as u64,
+        pace(t) * k,
+        pace(m) * q,
+        lo as u64 * parts,
+        hi as u64 * parts,
     );
     let first = straight(t);
     let second = straight(m);
@@ -135,21 +141,29 @@ fn anywhere(t: Track, m: Track, lo: u32, hi: u32) -> Ticks
     )
 }
 
-// The first goes one further in each tick, the second is somewhere on its span.
+// The first goes on evenly in parts of a location, as many as its rate has ticks, the second is somewhere on its span.
 fn one_anywhere(t: Track, m: Track, lo: u32, hi: u32) -> Ticks
     requires { ⌜ Valid t ⌝ }
     requires { ⌜ Valid m ⌝ }
     requires { ⌜ (lo ≤ thresholdMost + 1) × (hi ≤ coordinateLast) ⌝ }
     ensures { λ r. ⌜ Drifts lo hi t m (r .0) ⌝ }
 {
+    let q = t.ticks as u64;
     let w = width(m);
-    let x = t.distance();
-    let ticks = stay(x as u64, least(m) + w, w, pace(t), 0, lo as u64, hi as u64);
+    let ticks = stay(
+        fine(t),
+        (least(m) + w) * q,
+        w * q,
+        pace(t),
+        0,
+        lo as u64 * q,
+        hi as u64 * q,
+    );
     let first = straight(t);
     Ticks(smaller(ticks.0, first.0))
 }
 
-// Both go round their spans.
+// Both go round their spans, equally fast.
 fn in_step(t: Track, m: Track, lo: u32, hi: u32) -> Ticks
     requires { ⌜ Valid t ⌝ }
     requires { ⌜ Valid m ⌝ }
@@ -161,10 +175,47 @@ fn in_step(t: Track, m: Track, lo: u32, hi: u32) -> Ticks
     if m.mode != Track::PLAYING {
         return Ticks(0);
     }
-    rounds(t.next(), m.next(), t.span(), m.span(), lo, hi)
+    if t.due == Track::DUE {
+        return Ticks(0);
+    }
+    if m.due == Track::DUE {
+        return Ticks(0);
+    }
+    let q = t.ticks as u64;
+    let k = m.ticks as u64;
+    if t.steps as u64 * k != m.steps as u64 * q {
+        return Ticks(0);
+    }
+    let parts = q * k;
+    rounds(
+        fine(t) * k,
+        fine(m) * q,
+        t.span() as u64 * parts,
+        m.span() as u64 * parts,
+        lo as u64 * parts,
+        hi as u64 * parts,
+    )
 }
 
-// The ticks in which each step goes one further from home; all of them where it stands.
+// Neither makes a step.
+fn unmoved(t: Track, m: Track, lo: u32, hi: u32) -> Ticks
+    requires { ⌜ Valid t ⌝ }
+    requires { ⌜ Valid m ⌝ }
+    ensures { λ r. ⌜ Drifts lo hi t m (r .0) ⌝ }
+{
+    let drift = apart(t.distance(), m.distance());
+    if drift < lo {
+        return Ticks(0);
+    }
+    if hi < drift {
+        return Ticks(0);
+    }
+    let first = still(t);
+    let second = still(m);
+    Ticks(smaller(first.0, second.0))
+}
+
+// The ticks in which each step that is made goes one further from home; all of them where it stands.
 fn straight(t: Track) -> Ticks
     requires { ⌜ Valid t ⌝ }
     ensures { λ r. ⌜ r .0 ≡ straight t ⌝ }
@@ -173,18 +224,41 @@ fn straight(t: Track) -> Ticks
         return Ticks(Ticks::END);
     }
     if t.due == Track::DUE {
-        return Ticks(0);
+        return t.ticks_before(0);
     }
-    let steps = t.span() - 1 - t.distance();
-    Ticks(steps)
+    t.ticks_before(t.span() - 1 - t.distance())
 }
 
-// How far it goes in each of them.
+// The ticks before the next one that makes a step; all of them where it stands.
+fn still(t: Track) -> Ticks
+    requires { ⌜ Valid t ⌝ }
+    ensures { λ r. ⌜ r .0 ≡ still t ⌝ }
+{
+    if t.mode != Track::PLAYING {
+        return Ticks(Ticks::END);
+    }
+    t.ticks_before(0)
+}
+
+// Its distance in parts of a location, as many as its rate has ticks.
+fn fine(t: Track) -> u64
+    requires { ⌜ Valid t ⌝ }
+    ensures { λ r. ⌜ (r ≡ fine t) × (r ≤ fineMost) ⌝ }
+{
+    let whole = t.distance() as u64 * t.ticks as u64;
+    if t.mode == Track::PLAYING {
+        return whole + t.remainder as u64;
+    }
+    whole
+}
+
+// How many of them it goes in each tick of a line.
 fn pace(t: Track) -> u64
+    requires { ⌜ Valid t ⌝ }
     ensures { λ r. ⌜ r ≡ pace t ⌝ }
 {
     if t.mode == Track::PLAYING {
-        return 1;
+        return t.steps as u64;
     }
     0
 }

@@ -3,6 +3,7 @@ use crate::Board;
 use crate::log::Record;
 use crate::log::put_record;
 use crate::points::Point;
+use crate::points::Points;
 use track::Coordinate;
 use track::Passes;
 use track::Ticks;
@@ -10,17 +11,19 @@ use track::Track;
 use track::grid::Decision;
 use track::grid::grid;
 ghost use mathlib.Core.Path.{_≡_};
-ghost use mathlib.Core.Bool.{_||_};
+ghost use mathlib.Core.Bool.{true, cond, _||_};
 ghost use mathlib.Core.List.{[], _++_};
-ghost use Prim.Native.Nat.{_+_, _*_, _%_, _≤_, _<_};
+ghost use Prim.Native.Nat.{_+_, _-_, _*_, _%_, _≤_, _<_};
+ghost use lib.Dec.{eqb};
 ghost use lib.ListN.{length, take, drop};
-ghost use Rattle.track.specs.Rule.{Valid, clockEnd};
+ghost use Rattle.track.specs.Rule.{STOPPED, Valid, clockEnd, rateMost};
 ghost use Rattle.track.specs.Grid.{gridOf};
-ghost use Rattle.track.specs.Walk.{arrival, step};
+ghost use Rattle.track.specs.Walk.{arrival};
+ghost use Rattle.track.specs.Leap.{moves, played};
 ghost use Rattle.board.specs.Log.{writeAt, logBytes, recordWidth};
 ghost use Rattle.board.specs.Tick.{pointRecords, changeRecords, stepRecords, commandRecords, commanded, obeyed, obeyedRecords, runAll};
 ghost use Rattle.board.specs.Tick.{staged, stepped, reachedBy, needsMore, playBit, playingWord, InfoRule, TracksRule};
-ghost use Rattle.board.specs.Points.{waits, commandOf};
+ghost use Rattle.board.specs.Points.{waits, commandOf, infoAt, ascendingFrom};
 
 // A track after a command, and the number of records staged.
 pub struct Staged {
@@ -35,12 +38,13 @@ impl Staged {
     pub const BYTES: usize = Staged::MOST * Record::WIDTH;
 }
 
-// What a step changes of its track, and the number of records staged.
+// What a tick changes of its track, and the number of records staged.
 pub struct Stepped {
     pub mode: u8,
     pub position: Coordinate,
     pub passes: Passes,
     pub due: u8,
+    pub remainder: u32,
     pub count: usize,
 }
 
@@ -150,9 +154,41 @@ pub(crate) fn stage_change(
     n + 1
 }
 
-// One step of a playing track to l, with the info that it finds there: its point's record, then its mode-change record.
+// What a playing track finds in a tick: the info of its point at the key, 0 where there is none or no step is made.
+pub(crate) fn info_met<'a>(
+    made: bool,
+    here: u32,
+    keys: &'a [u32],
+    infos: &'a [u32],
+    n: usize,
+) -> u32
+    requires { ⌜ (n ≤ length (now keys)) × (n ≤ length (now infos)) ⌝ }
+    requires { ⌜ ascendingFrom 0 (take n (now keys)) ≡ true ⌝ }
+    ensures { λ r. ⌜ r ≡ cond made (infoAt here (take n (now (keys .entry))) (take n (now (infos .entry)))) 0 ⌝ }
+{
+    if !made {
+        return 0;
+    }
+    Points::info_at(keys, infos, n, here)
+}
+
+// The remainder that a step leaves, where the track is in this mode after it: rewinding leaves none.
+fn remainder_left(remainder: u32, steps: u16, ticks: u16, mode: u8) -> u32
+    requires { ⌜ (remainder < ticks) × (steps ≤ ticks) ⌝ }
+    requires { ⌜ (ticks ≤ rateMost) × (ticks ≤ remainder + steps) ⌝ }
+    ensures { λ r. ⌜ r ≡ cond (eqb mode STOPPED) 0 (remainder + steps - ticks) ⌝ }
+{
+    if mode == Track::STOPPED {
+        return 0;
+    }
+    remainder + steps as u32 - ticks as u32
+}
+
+// One tick of a playing track, whose step, if one is made, is to l, with the info that it finds there: its point's record, then its
+// mode-change record.
 pub(crate) fn step_member(
     t: Track,
+    made: bool,
     l: Coordinate,
     track: u8,
     clock: Ticks,
@@ -165,10 +201,22 @@ pub(crate) fn step_member(
     requires { ⌜ InfoRule d ⌝ }
     requires { ⌜ n * recordWidth + 2 * recordWidth ≤ length (now stage) ⌝ }
     requires { ⌜ l .0 ≡ arrival t ⌝ }
-    ensures stepped { λ r. ⌜ r ≡ stepped (step t (waits d)) (n + length (stepRecords (clock .0) track t d)) ⌝ }
+    requires { ⌜ made ≡ moves t ⌝ }
+    ensures stepped { λ r. ⌜ r ≡ stepped (played t (waits d)) (n + length (stepRecords (clock .0) track t d)) ⌝ }
     ensures bytes { λ r. ⌜ now (stage .exit) ≡ writeAt (now (stage .entry)) (n * recordWidth) (logBytes (stepRecords (clock .0) track t d)) ⌝ }
 {
     let before = t.passes;
+    if !made {
+        let position = t.position;
+        return Stepped {
+            mode: t.mode,
+            position,
+            passes: before,
+            due: t.due,
+            remainder: t.remainder + t.steps as u32,
+            count: n,
+        };
+    }
     let noted = stage_point(stage, n, clock, track, l, before, d);
     let passes = t.passes_at(l);
     let after = t.step(d / Point::WAIT % 2 == 1);
@@ -180,6 +228,7 @@ pub(crate) fn step_member(
         position: reached,
         passes: counted,
         due: after.due,
+        remainder: remainder_left(t.remainder, t.steps, t.ticks, after.mode),
         count,
     }
 }

@@ -195,6 +195,7 @@ rowed i (change.Repeat f) = (pos 5 ∷ i ∷ f ∷ [], refl)
 rowed i (change.Direction d) = (pos 6 ∷ i ∷ d ∷ [], refl)
 rowed i (change.Action from to event) = (pos 9 ∷ i ∷ from ∷ to ∷ event ∷ [], refl)
 rowed i (change.Jump p) = (pos 10 ∷ i ∷ p ∷ [], refl)
+rowed i (change.Rate p q) = (pos 22 ∷ i ∷ p ∷ q ∷ [], refl)
 
 -- a list, lent
 abbrev lends : {A : Type 0} → List A → RefT (List A)

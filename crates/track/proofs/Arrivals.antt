@@ -7,9 +7,9 @@ use native.Mathlib.Omega.{arith}
 use lib.Dec.{eqb}
 use borrow.Author.Tests.{eqb-true, eqb-false, eq-eqb, ne-eqb}
 use Rattle.track.specs.declared.Track.{Track}
-use Rattle.track.specs.Rule.{PLAYING, STOPPED, WAITING, BACKWARD, VISITED, DUE, backward, isDue, Valid, home, far, moved, rewound, stopped, entered}
+use Rattle.track.specs.Rule.{PLAYING, STOPPED, WAITING, BACKWARD, VISITED, DUE, backward, isDue, Valid, home, far, moved, withRemainder, rewound, stopped, entered}
 use Rattle.track.specs.Walk.{arrival, passesAt, stops, visited, step}
-use Rattle.track.specs.Leap.{span, place, next}
+use Rattle.track.specs.Stride.{span, place, next}
 use Rattle.track.proofs.Tests.{cond-cases}
 use Rattle.track.proofs.Cycle.{near-mod, near-div, last-mod, last-div}
 
@@ -121,8 +121,9 @@ module _ (t : Track) (v : Valid t) where
 
 -- ---- what a step keeps
 module _ (t : Track) (v : Valid t) where
-  pub moved-valid : (m l q d : ℕ) → m ≤ WAITING → d ≤ DUE → (t .start .0 ≤ l) × (l ≤ t .end .0) → Valid (moved t m l q d)
-  moved-valid m l q d hm hd hl =
+  pub put-valid : (m l q d r : ℕ) → m ≤ WAITING → d ≤ DUE → (t .start .0 ≤ l) × (l ≤ t .end .0) → r < t .ticks → (m ≡ STOPPED → r ≡ 0) →
+      Valid (withRemainder (moved t m l q d) r)
+  put-valid m l q d r hm hd hl hr hs =
       record {
         ordered = omega arith;
         loops = v .loops;
@@ -131,21 +132,30 @@ module _ (t : Track) (v : Valid t) where
         repeat = v .repeat;
         due = hd;
         cells = v .cells;
+        rate = record { some = v .rate .some; most = v .rate .most; last = v .rate .last; below = hr; stands = hs };
       }
 
+  pub moved-valid : (m l q d : ℕ) → m ≤ WAITING → d ≤ DUE → (t .start .0 ≤ l) × (l ≤ t .end .0) → (m ≡ STOPPED → t .remainder ≡ 0) →
+      Valid (moved t m l q d)
+  moved-valid m l q d hm hd hl hs = put-valid m l q d (t .remainder) hm hd hl (v .rate .below) hs
+
+  pub remainder-valid : (r : ℕ) → r < t .ticks → (t .mode ≡ STOPPED → r ≡ 0) → Valid (withRemainder t r)
+  remainder-valid r hr hs = put-valid (t .mode) (t .position .0) (t .passes .0) (t .due) r (v .mode) (v .due) (omega arith) hr hs
+
   pub stopped-valid : Valid (stopped t)
-  stopped-valid = moved-valid STOPPED (home t) 0 DUE (omega arith) (omega arith) (home-inside t v)
+  stopped-valid = put-valid STOPPED (home t) 0 DUE 0 (omega arith) (omega arith) (home-inside t v) (omega (arith, v .rate)) (λ _. refl)
 
   pub entered-valid : (m : ℕ) → m ≤ WAITING → Valid (entered t m)
   unfolding entered
   entered-valid m h =
-      cond-cases Valid (eqb m STOPPED) (λ _. stopped-valid) (λ _. moved-valid m (t .position .0) (t .passes .0) (t .due) h (v .due) (omega arith))
+      cond-cases Valid (eqb m STOPPED) (λ _. stopped-valid) (λ n. moved-valid m (t .position .0) (t .passes .0) (t .due) h (v .due) (omega arith) (λ e. absurd (eqb-false m STOPPED n e)))
 
   pub step-valid : (w : Bool) → Valid (step t w)
   unfolding step visited
   step-valid w =
       cond-cases Valid (stops t) (λ h. stopped-valid)
-      (λ h. moved-valid _ _ _ _ (cond-cases (λ (m : ℕ). m ≤ WAITING) w (λ _. omega arith) (λ _. v .mode)) (omega arith) (arrival-inside t v))
+      (λ h. moved-valid _ _ _ _ (cond-cases (λ (m : ℕ). m ≤ WAITING) w (λ _. omega arith) (λ _. v .mode)) (omega arith) (arrival-inside t v)
+      (cond-cases (λ (m : ℕ). m ≡ STOPPED → t .remainder ≡ 0) w (λ _ e. absurd (omega arith)) (λ _. v .rate .stands)))
 
 -- passes grow by at most 1 in a step, and never by a change of mode
 pub step-passes : (t : Track) (w : Bool) → step t w .passes .0 ≤ t .passes .0 + 1

@@ -1,7 +1,7 @@
 -- The tests of a track's ranges and rules say whether the track keeps them.
 use Prim.Native.Nat.{ℕ, zero, suc, _≤_, _<_}
 use mathlib.Core.Path.{_≡_, refl, sym, _∙_}
-use mathlib.Core.Bool.{Bool, true, false, and-true, and-false}
+use mathlib.Core.Bool.{Bool, true, false, not, _||_, and-true, and-false}
 use mathlib.Core.List.{List, [], _∷_}
 use lib.Dec.{ltb, leb, eqb}
 use lib.ListN.{length, getD}
@@ -15,7 +15,7 @@ use denote.Array.{Array, each}
 use borrow.Author.Tests.{eqb-true, ltb-true, leb-true, lt-ltb, le-leb, lt-leb, eq-eqb}
 use Rattle.track.specs.declared.Track.{Track}
 use Rattle.track.specs.declared.Ticks.{Ticks}
-use Rattle.track.specs.Rule.{every, Ordered, orderedTest, Cells, eventsTest, cellsTest, Valid, validTest, Sound, soundTest, WAITING, BACKWARD, REPEATING, DUE, loopsMost, cellCount, cellMost, coordinateLast}
+use Rattle.track.specs.Rule.{every, Ordered, orderedTest, Cells, eventsTest, cellsTest, Rated, ratedTest, Valid, validTest, Sound, soundTest, STOPPED, WAITING, BACKWARD, REPEATING, DUE, loopsMost, cellCount, cellMost, rateMost, coordinateLast}
 use Rattle.track.proofs.Tests.{every-of, every-is, both, both-is}
 
 module _ (min max start end position : ℕ) where
@@ -91,6 +91,42 @@ module _ (cells : List ℕ) where
         ),
       ))
 
+module _ (steps ticks remainder mode : ℕ) where
+  rates : List Bool
+  rates = leb 1 steps ∷ leb steps ticks ∷ leb ticks rateMost ∷ ltb remainder ticks ∷ (not (eqb mode STOPPED) || eqb remainder 0) ∷ []
+
+  pub rated-of : ratedTest steps ticks remainder mode ≡ true → Rated steps ticks remainder mode
+  unfolding ratedTest rates
+  rated-of h =
+      let e = every-of rates h in
+      record {
+        some = leb-true _ _ (e .0);
+        most = leb-true _ _ (e .1 .0);
+        last = leb-true _ _ (e .1 .1 .0);
+        below = ltb-true _ _ (e .1 .1 .1 .0);
+        stands = λ m. eqb-true _ _ (simp (eq-eqb mode STOPPED m) at (e .1 .1 .1 .1 .0));
+      }
+
+  pub rated-is : Rated steps ticks remainder mode → true ≡ ratedTest steps ticks remainder mode
+  unfolding ratedTest rates
+  rated-is r =
+      sym (every-is rates
+      (le-leb _ _ (r .some), (le-leb _ _ (r .most), (le-leb _ _ (r .last), (lt-ltb _ _ (r .below), (at-rest (eqb mode STOPPED) refl, tt))))))
+    where
+      at-rest : (b : Bool) → eqb mode STOPPED ≡ b → (not (eqb mode STOPPED) || eqb remainder 0) ≡ true
+      at-rest true e = simp e (eq-eqb _ _ (r .stands (eqb-true _ _ e)))
+      at-rest false e = simp e
+
+  -- the last ways out of `rated`
+  module _ (some : 1 ≤ steps) (most : steps ≤ ticks) (last : ticks ≤ rateMost) (below : remainder < ticks) where
+    pub rated-goes : (mode ≡ STOPPED → ⊥) → true ≡ ratedTest steps ticks remainder mode
+    rated-goes n = rated-is (record { some = some; most = most; last = last; below = below; stands = λ e. absurd (n e) })
+
+    pub rated-stands : mode ≡ STOPPED → eqb remainder 0 ≡ ratedTest steps ticks remainder mode
+    unfolding ratedTest every
+    rated-stands e =
+        simp (le-leb _ _ some, le-leb _ _ most, le-leb _ _ last, lt-ltb _ _ below, eq-eqb mode STOPPED e, and-true)
+
 module _ (t : Track) where
   rules : List Bool
   rules =
@@ -102,6 +138,7 @@ module _ (t : Track) where
       ∷ leb (t .repeat) REPEATING
       ∷ leb (t .due) DUE
       ∷ cellsTest (t .actions)
+      ∷ ratedTest (t .steps) (t .ticks) (t .remainder) (t .mode)
       ∷ []
 
   pub valid-of : validTest t ≡ true → Valid t
@@ -116,6 +153,7 @@ module _ (t : Track) where
         repeat = leb-true _ _ (e .1 .1 .1 .1 .1 .0);
         due = leb-true _ _ (e .1 .1 .1 .1 .1 .1 .0);
         cells = cells-of _ (e .1 .1 .1 .1 .1 .1 .1 .0);
+        rate = rated-of _ _ _ _ (e .1 .1 .1 .1 .1 .1 .1 .1 .0);
       }
 
   pub valid-is : Valid t → true ≡ validTest t
@@ -129,7 +167,7 @@ module _ (t : Track) where
             le-leb _ _ (v .loops .1),
             (
               le-leb _ _ (v .mode),
-              (le-leb _ _ (v .direction), (le-leb _ _ (v .repeat), (le-leb _ _ (v .due), (sym (cells-is _ (v .cells)), tt)))),
+              (le-leb _ _ (v .direction), (le-leb _ _ (v .repeat), (le-leb _ _ (v .due), (sym (cells-is _ (v .cells)), (sym (rated-is _ _ _ _ (v .rate)), tt))))),
             ),
           ),
         ),
@@ -150,12 +188,16 @@ module _ (t : Track) where
   unfolding validTest every
   valid-not-ordered h = simp h
 
-  pub valid-cells : {o r : Bool} → o ≡ orderedTest (t .min .0) (t .max .0) (t .start .0) (t .end .0) (t .position .0) → o ≡ true →
-      (1 ≤ t .loops) × (t .loops ≤ loopsMost) → t .mode ≤ WAITING → t .direction ≤ BACKWARD → t .repeat ≤ REPEATING → t .due ≤ DUE →
-      r ≡ cellsTest (t .actions) → r ≡ validTest t
+  pub valid-not-cells : {o : Bool} → o ≡ cellsTest (t .actions) → o ≡ false → false ≡ validTest t
   unfolding validTest every
-  valid-cells e h l m d p u q =
-      q ∙ simp (← e, h, le-leb _ _ (l .0), le-leb _ _ (l .1), le-leb _ _ m, le-leb _ _ d, le-leb _ _ p, le-leb _ _ u, and-true)
+  valid-not-cells e h = simp (← e, h, and-false)
+
+  pub valid-rated : {o d r : Bool} → o ≡ orderedTest (t .min .0) (t .max .0) (t .start .0) (t .end .0) (t .position .0) → o ≡ true →
+      (1 ≤ t .loops) × (t .loops ≤ loopsMost) → t .mode ≤ WAITING → t .direction ≤ BACKWARD → t .repeat ≤ REPEATING → t .due ≤ DUE →
+      d ≡ cellsTest (t .actions) → d ≡ true → r ≡ ratedTest (t .steps) (t .ticks) (t .remainder) (t .mode) → r ≡ validTest t
+  unfolding validTest every
+  valid-rated e h l m d p u f k q =
+      q ∙ simp (← e, h, le-leb _ _ (l .0), le-leb _ _ (l .1), le-leb _ _ m, le-leb _ _ d, le-leb _ _ p, le-leb _ _ u, ← f, k, and-true)
 
   pub sound-late : {clock : Ticks} → clock .0 < t .passes .0 → false ≡ soundTest t clock
   unfolding soundTest

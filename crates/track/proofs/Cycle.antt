@@ -7,7 +7,7 @@ use borrow.Author.Tests.{ltb-true, ltb-false, leb-true, leb-false}
 use native.Mathlib.Nat.{div-add-mod', mod-lt, div-lt-iff-lt-mul, mul-div-cancel, mul-mod-left, mod-eq-sub-mod, mod-eq-of-lt}
 use native.Mathlib.Omega.{arith}
 use lib.Arith.{digits-div, digits-mod}
-use Rattle.track.specs.Leap.{ahead}
+use Rattle.track.specs.Stride.{ahead}
 use Rattle.track.proofs.Tests.{cond-cases}
 
 module _ (x : ℕ) {n : ℕ} where

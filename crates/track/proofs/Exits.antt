@@ -1,5 +1,5 @@
 -- What each definition comes to on each way out of the function that computes it; the callees' results are variables.
-use Prim.Native.Nat.{ℕ, zero, suc, _+_, _-_, _*_, _/_, _%_, _≤_, _<_, max}
+use Prim.Native.Nat.{ℕ, zero, suc, _+_, _-_, _*_, _/_, _%_, _≤_, _<_, min, max}
 use mathlib.Core.Path.{_≡_, refl, sym, _∙_, ap, ap₂}
 use mathlib.Core.Bool.{Bool, true, false, and-false}
 use native.Mathlib.Nat.{one-mul}
@@ -9,19 +9,18 @@ use borrow.Author.Tests.{eq-eqb, ne-eqb, le-leb, lt-leb}
 use Rattle.track.specs.declared.Track.{Track}
 use Rattle.track.specs.declared.setup.Change.{Change}
 use Rattle.track.specs.declared.setup.Changed.{Changed}
-use Rattle.track.specs.Rule.{STOPPED, PAUSED, WAITING, BACKWARD, REPEATING, VISITED, DUE, clockEnd, Valid, home, far, moved, rewound, stopped, entered}
+use Rattle.track.specs.Rule.{STOPPED, PAUSED, WAITING, BACKWARD, REPEATING, VISITED, DUE, clockEnd, Valid, home, far, moved, withRemainder, rewound, stopped, entered}
 use Rattle.track.specs.Walk.{arrival, passesAt, stops, visited, step}
-use Rattle.track.specs.Leap.{span, phase, place, next, leap, stepsTo, stopStep, running}
+use Rattle.track.specs.Stride.{span, phase, place, next, stride, stepsTo, stopStep, running}
 use Rattle.track.specs.Setup.{refused, turned, closes, turnedTo, settled, permits, setBy, changedBy}
-use Rattle.track.proofs.Leaps.{leap-zero}
+use Rattle.track.specs.Leap.{stepsIn, remainderAfter, leap, ticksBefore}
+use Rattle.track.proofs.Strides.{stride-zero}
+use Rattle.track.proofs.Leaps.{leap-zero, one-before}
 
 module _ (t : Track) where
   -- rewound, entered
-  pub rewound-is : {h : ℕ} {r : Track} → h ≡ home t → r ≡ moved t (t .mode) h 0 DUE → r ≡ rewound t
-  rewound-is e q = q ∙ ap (λ (h : ℕ). moved t (t .mode) h 0 DUE) e
-
-  pub stopped-is : {m h : ℕ} {r : Track} → m ≡ STOPPED → h ≡ home t → r ≡ moved t m h 0 DUE → r ≡ stopped t
-  stopped-is em e q = q ∙ ap₂ (λ (m h : ℕ). moved t m h 0 DUE) em e
+  pub rewound-is : {h : ℕ} {r : Track} → h ≡ home t → r ≡ moved t (t .mode) h 0 DUE → withRemainder r 0 ≡ rewound t
+  rewound-is e q = ap (λ (r : Track). withRemainder r 0) (q ∙ ap (λ (h : ℕ). moved t (t .mode) h 0 DUE) e)
 
   pub entered-stops : {m : ℕ} {r : Track} → m ≡ STOPPED → r ≡ stopped t → r ≡ entered t m
   unfolding entered
@@ -93,15 +92,31 @@ module _ (t : Track) where
   pub place-fore : (k : ℕ) → (t .direction ≡ BACKWARD → ⊥) → t .start .0 + k ≡ place t k
   place-fore k b = simp (ne-eqb _ _ b)
 
+  -- stride
+  pub stride-none : Valid t → {n : ℕ} → n ≡ 0 → t ≡ stride t n
+  stride-none v e = sym (stride-zero t v) ∙ ap (stride t) (sym e)
+
+  pub stride-some : (n : ℕ) {s c l : ℕ} {r : Track} → s ≡ span t → c ≡ next t → (n ≡ 0 → ⊥) → l ≡ place t ((c + (n - 1)) % s) →
+      r ≡ moved t (t .mode) l (t .passes .0 + (c + n) / s) VISITED → r ≡ stride t n
+  unfolding stride
+  stride-some zero es ec h el er = absurd (h refl)
+  stride-some (suc n) es ec h el er = let back : suc n - 1 ≡ n = omega arith in er ∙ simp (el, back, es, ec)
+
   -- leap
   pub leap-none : Valid t → {n : ℕ} → n ≡ 0 → t ≡ leap t n
   leap-none v e = sym (leap-zero t v) ∙ ap (leap t) (sym e)
 
-  pub leap-some : (n : ℕ) {s c l : ℕ} {r : Track} → s ≡ span t → c ≡ next t → (n ≡ 0 → ⊥) → l ≡ place t ((c + (n - 1)) % s) →
-      r ≡ moved t (t .mode) l (t .passes .0 + (c + n) / s) VISITED → r ≡ leap t n
+  pub leap-some : (n : ℕ) {s k : ℕ} {r : Track} → s ≡ stepsIn t n → k ≡ remainderAfter t n → r ≡ stride t s → withRemainder r k ≡ leap t n
   unfolding leap
-  leap-some zero es ec h el er = absurd (h refl)
-  leap-some (suc n) es ec h el er = let back : suc n - 1 ≡ n = omega arith in er ∙ simp (el, back, es, ec)
+  leap-some n es ek q = ap₂ (λ (u : Track) (k : ℕ). withRemainder u k) (q ∙ ap (stride t) es) ek
+
+  -- ticksBefore
+  pub before-one : Valid t → (s : ℕ) → s ≤ clockEnd → t .ticks ≡ 1 → s ≡ ticksBefore t s
+  before-one v s h e = sym (one-before t v e s h)
+
+  pub before-some : (s : ℕ) {k : ℕ} → k ≡ min clockEnd ((suc s * t .ticks - t .remainder - 1) / t .steps) → k ≡ ticksBefore t s
+  unfolding ticksBefore
+  before-some s q = q
 
   -- stepsTo
   pub steps-up : (l : ℕ) {c f : ℕ} → c ≡ next t → f ≡ phase t l → c ≤ f → f - c ≡ stepsTo t l

@@ -12,14 +12,14 @@ use Rattle.track.specs.declared.setup.Change.the-variants as change
 use Rattle.track.specs.declared.setup.Changed.{Changed}
 use Rattle.track.specs.Rule.{STOPPED, PLAYING, PAUSED, WAITING, BACKWARD, VISITED, DUE, backward, repeats, Valid, home, far, moved, rewound, stopped, entered}
 use Rattle.track.specs.Walk.{arrival, passesAt, stops, visited, step}
-use Rattle.track.specs.Leap.{span, leap}
+use Rattle.track.specs.Stride.{span, stride}
 use Rattle.track.specs.Follow.{distance}
 use Rattle.track.specs.Setup.{refused, accepted, settled, permits, turned, closes, turnedTo, directionSet, setBy, changedBy}
 use Rattle.track.specs.Flip.{directed, resumed, Closing}
 use Rattle.track.proofs.Tests.{both, refuted, cond-cases}
 use Rattle.track.proofs.Numbers.{natural-of}
 use Rattle.track.proofs.Arrivals.{far-home, moved-valid, entered-valid}
-use Rattle.track.proofs.Leaps.{leap-zero, leap-suc}
+use Rattle.track.proofs.Strides.{stride-zero, stride-suc}
 use Rattle.track.proofs.Setups.{changed-keeps}
 use Rattle.track.proofs.Exits.{settled-stopped, settled-else, closes-far, turned-to-rewound, turned-to-due, turned-to-alone}
 
@@ -169,32 +169,33 @@ module _ (t : Track) (k : ℕ) (c : Closing t k) where
   resumed-valid = entered-valid (directed t k .track) directed-valid PLAYING (omega arith)
 
   -- and the arrival after that is the other end, where no pass is counted
-  crosses : (m : ℕ) → m ≤ WAITING → (let u = moved (turned t k) m (t .position .0) (t .passes .0 + 1) VISITED in
+  crosses : (m : ℕ) → m ≤ WAITING → (m ≡ STOPPED → ⊥) → (let u = moved (turned t k) m (t .position .0) (t .passes .0 + 1) VISITED in
       (arrival u ≡ far t) × (passesAt u (arrival u) ≡ t .passes .0 + 1))
-  crosses m l =
+  crosses m l n =
       let v : Valid (moved (turned t k) PAUSED (t .position .0) (t .passes .0) DUE) = rw (ap (λ (r : Changed). r .track) turned-closes) at directed-valid in
       let h = far-home (moved (turned t k) m (t .position .0) (t .passes .0 + 1) VISITED)
-      (moved-valid (moved (turned t k) PAUSED (t .position .0) (t .passes .0) DUE) v m (t .position .0) (t .passes .0 + 1) VISITED l (omega arith) (omega arith))
+      (moved-valid (moved (turned t k) PAUSED (t .position .0) (t .passes .0) DUE) v m (t .position .0) (t .passes .0 + 1) VISITED l (omega arith) (omega arith) (λ e. absurd (n e)))
       refl (c .at-far) in
       (h .0 ∙ flip-ends t (c .valid) k (c .direction) (c .flips) .1, h .1)
 
   pub closing-next : (w : Bool) → stops (resumed t k) ≡ false →
       (arrival (step (resumed t k) w) ≡ far t) × (passesAt (step (resumed t k) w) (arrival (step (resumed t k) w)) ≡ t .passes .0 + 1)
   closing-next w n =
-      rw (closing-step w n) (crosses (cond w WAITING PLAYING) (cond-cases (λ (m : ℕ). m ≤ WAITING) w (λ _. omega arith) (λ _. omega arith)))
+      rw (closing-step w n) (crosses (cond w WAITING PLAYING) (cond-cases (λ (m : ℕ). m ≤ WAITING) w (λ _. omega arith) (λ _. omega arith))
+      (cond-cases (λ (m : ℕ). m ≡ STOPPED → ⊥) w (λ _. omega arith) (λ _. omega arith)))
 
-  -- the leap knows it: its first step is on the spot and closes the pass, its second crosses
-  pub closing-leap : leap (resumed t k) 1 ≡ moved (turned t k) PLAYING (t .position .0) (t .passes .0 + 1) VISITED
+  -- the stride knows it: its first step is on the spot and closes the pass, its second crosses
+  pub closing-stride : stride (resumed t k) 1 ≡ moved (turned t k) PLAYING (t .position .0) (t .passes .0 + 1) VISITED
   unfolding visited arrival passesAt
-  closing-leap =
-      leap-suc (resumed t k) resumed-valid 0
-      ∙ ap₂ (λ (u r : Track). visited u (r .mode)) (leap-zero (resumed t k) resumed-valid ∙ resumed-is) resumed-is
+  closing-stride =
+      stride-suc (resumed t k) resumed-valid 0
+      ∙ ap₂ (λ (u r : Track). visited u (r .mode)) (stride-zero (resumed t k) resumed-valid ∙ resumed-is) resumed-is
       ∙ simp (eq-eqb _ _ (c .at-far))
 
-  pub closing-crosses : leap (resumed t k) 2 ≡ moved (turned t k) PLAYING (far t) (t .passes .0 + 1) VISITED
+  pub closing-crosses : stride (resumed t k) 2 ≡ moved (turned t k) PLAYING (far t) (t .passes .0 + 1) VISITED
   unfolding visited
   closing-crosses =
-      let x = crosses PLAYING (omega arith) in
-      leap-suc (resumed t k) resumed-valid 1
-      ∙ ap₂ (λ (u r : Track). visited u (r .mode)) closing-leap resumed-is
+      let x = crosses PLAYING (omega arith) (omega arith) in
+      stride-suc (resumed t k) resumed-valid 1
+      ∙ ap₂ (λ (u r : Track). visited u (r .mode)) closing-stride resumed-is
       ∙ ap₂ (λ (l p : ℕ). moved (turned t k) PLAYING l p VISITED) (x .0) (x .1)

@@ -11,9 +11,10 @@ use lib.Seq.{drop-cons}
 use borrow.Author.Tests.{eqb-true, leb-true, lt-ltb, le-ltb, le-leb, lt-leb, eq-eqb, ne-eqb}
 use Rattle.track.specs.declared.Track.{Track}
 use Rattle.track.specs.declared.Ticks.{Ticks}
-use Rattle.track.specs.Rule.{every, STOPPED, thresholdCount, thresholdMost, eventMost, Valid, Sound, moved, entered}
+use Rattle.track.specs.Rule.{every, STOPPED, thresholdCount, thresholdMost, eventMost, Valid, Sound, moved, stopped, withRemainder, entered}
 use Rattle.track.specs.Walk.{stops, visited, step}
-use Rattle.track.specs.Leap.{leap}
+use Rattle.track.specs.Stride.{stride}
+use Rattle.track.specs.Leap.{moves, remainderLeft, played, stepsIn, remainderAfter, leap}
 use Rattle.track.specs.Follow.{upToZero, thresholdsOf, distance, apart, bandOf, judged, banded, following, zerosTest, pairsTest, Follower, followerTest}
 use Rattle.track.proofs.Tests.{cond-cases, every-of, every-is, both, refuted}
 
@@ -71,19 +72,6 @@ module _ (row : List ℕ) (k : ℕ) where
     unfolding bandOf
     band-end l = rw (head-end l)
 
-  -- nothing but 0
-  pub zeros-next : k < length row → getD row k 0 ≡ 0 → zerosTest (drop (k + 1) row) ≡ zerosTest (drop k row)
-  unfolding zerosTest
-  zeros-next l h = rw (add-one, drop-cons row k 0 l, h)
-
-  pub zeros-bad : k < length row → (getD row k 0 ≡ 0 → ⊥) → false ≡ zerosTest (drop k row)
-  unfolding zerosTest
-  zeros-bad l h = rw (drop-cons row k 0 l, ne-eqb (getD row k 0) 0 h)
-
-  pub zeros-end : length row ≤ k → true ≡ zerosTest (drop k row)
-  unfolding zerosTest
-  zeros-end l = rw (drop-of-length-le row {i = k} l)
-
 -- ---- thresholds and their events
 
 abbrev pub pairTest : ℕ → ℕ → ℕ → Bool
@@ -118,18 +106,33 @@ and-none true true false d r h = refl
 and-none true false c d r h = refl
 and-none false b c d r h = refl
 
+-- nothing but 0 from a place on
+abbrev zerosFrom : List ℕ → List ℕ → ℕ → Bool
+zerosFrom xs es k = zerosTest (drop k xs) && zerosTest (drop k es)
+
+module _ (xs es : List ℕ) (k : ℕ) where
+  module _ (l : k < length xs) (m : k < length es) where
+    pub zeros-next : getD xs k 0 ≡ 0 → getD es k 0 ≡ 0 → zerosFrom xs es (k + 1) ≡ zerosFrom xs es k
+    unfolding zerosTest
+    zeros-next g h = rw (add-one, drop-cons xs k 0 l, drop-cons es k 0 m, g, h)
+
+    pub zeros-first : (getD xs k 0 ≡ 0 → ⊥) → false ≡ zerosFrom xs es k
+    unfolding zerosTest
+    zeros-first n = rw (drop-cons xs k 0 l, ne-eqb (getD xs k 0) 0 n)
+
+    pub zeros-second : (getD es k 0 ≡ 0 → ⊥) → false ≡ zerosFrom xs es k
+    unfolding zerosTest
+    zeros-second n = rw (drop-cons es k 0 m, ne-eqb (getD es k 0) 0 n, and-false)
+
+  pub zeros-end : length xs ≤ k → length es ≤ k → true ≡ zerosFrom xs es k
+  unfolding zerosTest
+  zeros-end l m = rw (drop-of-length-le xs {i = k} l, drop-of-length-le es {i = k} m)
+
 module _ (low : ℕ) (xs es : List ℕ) (k : ℕ) where
   module _ (l : k < length xs) (m : k < length es) where
-    pairs-zero : getD xs k 0 ≡ 0 → pairsTest low (drop k xs) (drop k es) ≡ (zerosTest (drop k xs) && zerosTest (drop k es))
+    pub pairs-none : getD xs k 0 ≡ 0 → {b : Bool} → b ≡ zerosFrom xs es k → b ≡ pairsTest low (drop k xs) (drop k es)
     unfolding pairsTest zerosTest
-    pairs-zero h = rw (drop-cons xs k 0 l, drop-cons es k 0 m, h)
-
-    module _ (h : getD xs k 0 ≡ 0) {a : Bool} (e : a ≡ zerosTest (drop k xs)) where
-      pub pairs-more : a ≡ false → false ≡ pairsTest low (drop k xs) (drop k es)
-      pairs-more g = sym (pairs-zero h ∙ simp (← e, g))
-
-      pub pairs-none : a ≡ true → {b : Bool} → b ≡ zerosTest (drop k es) → b ≡ pairsTest low (drop k xs) (drop k es)
-      pairs-none g q = q ∙ sym (pairs-zero h ∙ simp (← e, g))
+    pairs-none h e = e ∙ rw (drop-cons xs k 0 l, drop-cons es k 0 m, h)
 
     module _ (h : getD xs k 0 ≡ 0 → ⊥) {b : Bool} (e : b ≡ pairTest low (getD xs k 0) (getD es k 0)) where
       opened : pairsTest low (drop k xs) (drop k es)
@@ -235,17 +238,34 @@ then-follower p q =
 moved-follower : (t : Track) (mode position passes due : ℕ) → SameFollower t (moved t mode position passes due)
 moved-follower t mode position passes due = record { master = refl; band = refl; thresholds = refl; events = refl }
 
+-- and one that is stopped, or has another remainder
+stopped-follower : (t : Track) → SameFollower t (stopped t)
+stopped-follower t = record { master = refl; band = refl; thresholds = refl; events = refl }
+
+remainder-follower : (t : Track) (r : ℕ) → SameFollower t (withRemainder t r)
+remainder-follower t r = record { master = refl; band = refl; thresholds = refl; events = refl }
+
 pub entered-follower : (t : Track) (m : ℕ) → SameFollower t (entered t m)
 unfolding entered
-entered-follower t m = cond-cases (SameFollower t) (eqb m STOPPED) (λ e. moved-follower t _ _ _ _) (λ e. moved-follower t _ _ _ _)
+entered-follower t m = cond-cases (SameFollower t) (eqb m STOPPED) (λ e. stopped-follower t) (λ e. moved-follower t _ _ _ _)
 
 pub step-follower : (t : Track) (w : Bool) → SameFollower t (step t w)
 unfolding step visited
-step-follower t w = cond-cases (SameFollower t) (stops t) (λ e. moved-follower t _ _ _ _) (λ e. moved-follower t _ _ _ _)
+step-follower t w = cond-cases (SameFollower t) (stops t) (λ e. stopped-follower t) (λ e. moved-follower t _ _ _ _)
+
+pub stride-follower : (t : Track) (n : ℕ) → SameFollower t (stride t n)
+unfolding stride
+stride-follower t n = moved-follower t _ _ _ _
 
 pub leap-follower : (t : Track) (n : ℕ) → SameFollower t (leap t n)
 unfolding leap
-leap-follower t n = moved-follower t _ _ _ _
+leap-follower t n = then-follower (stride-follower t (stepsIn t n)) (remainder-follower (stride t (stepsIn t n)) (remainderAfter t n))
+
+pub played-follower : (t : Track) (w : Bool) → SameFollower t (played t w)
+unfolding played
+played-follower t w =
+    let r = remainder-follower t (remainderLeft t) in
+    cond-cases (SameFollower t) (moves t) (λ e. then-follower r (step-follower (withRemainder t (remainderLeft t)) w)) (λ e. r)
 
 -- a track with the same of them keeps the rules, and at a later clock
 pub follower-same : {t u : Track} {clock : Ticks} → SameFollower t u → Follower t clock → Follower u clock
@@ -293,6 +313,7 @@ banded-sound k s =
             repeat = v .repeat;
             due = v .due;
             cells = v .cells;
+            rate = v .rate;
           };
       passes = s .passes;
     }
@@ -312,6 +333,7 @@ following-sound master thresholds events s =
             repeat = v .repeat;
             due = v .due;
             cells = v .cells;
+            rate = v .rate;
           };
       passes = s .passes;
     }

@@ -2,12 +2,13 @@
 use Prim.Native.Nat.{ℕ, zero, suc, _+_, _*_, _≤_, _<_}
 use mathlib.Core.Path.{_≡_, refl, _∙_}
 use mathlib.Core.List.{List, [], _∷_}
+use mathlib.Core.Bool.{true}
 use native.Mathlib.Omega.{arith}
 use lib.ListN.{getD, set, length-set, replicate}
 use lib.Seq.{getD-set-other}
 use lib.IntN.{ℤ}
 use lib.Dec.{eqb, ltb}
-use borrow.Author.Tests.{eqb-false, ltb-true}
+use borrow.Author.Tests.{eqb-true, eqb-false, ltb-true, ltb-false}
 use Rattle.track.specs.declared.Track.{Track}
 use Rattle.track.specs.declared.Coordinate.{Coordinate}
 use Rattle.track.specs.declared.number.Natural.{Natural}
@@ -17,9 +18,9 @@ use Rattle.track.specs.declared.number.Place.the-variants as place
 use Rattle.track.specs.declared.setup.Change.{Change}
 use Rattle.track.specs.declared.setup.Change.the-variants as change
 use Rattle.track.specs.declared.setup.Changed.{Changed}
-use Rattle.track.specs.Rule.{STOPPED, BACKWARD, REPEATING, DUE, loopsMost, cellCount, cellMost, eventsTest, Ordered, Valid, Cells, newTrack, moved, rewound}
+use Rattle.track.specs.Rule.{STOPPED, BACKWARD, REPEATING, DUE, loopsMost, rateMost, cellCount, cellMost, eventsTest, Ordered, Valid, Cells, newTrack, moved, rewound}
 use Rattle.track.specs.Number.{naturalOf, coordinateOf, within, onNatural, onPlace}
-use Rattle.track.specs.Setup.{refused, setTo, turned, closes, turnedTo, startSet, endSet, loopsSet, repeatSet, directionSet, actionSet, jumpTo, setBy, permits, changedBy}
+use Rattle.track.specs.Setup.{refused, setTo, turned, closes, turnedTo, startSet, endSet, loopsSet, repeatSet, directionSet, actionSet, jumpTo, rateSet, setBy, permits, changedBy}
 use Rattle.track.proofs.Tests.{cond-cases}
 use Rattle.track.proofs.Checks.{events-of}
 use Rattle.track.proofs.Follows.{SameFollower, same-follower}
@@ -50,6 +51,7 @@ new-valid a b h l =
       due = omega arith;
       cells =
           record { number = refl; event = events-of (replicate cellCount 0) refl; stopped = refl; playing = refl; paused = refl; waiting = refl };
+      rate = record { some = omega arith; most = omega arith; last = omega arith; below = omega arith; stands = λ _. refl };
     }
 
 -- and it follows none
@@ -62,11 +64,11 @@ module _ (t : Track) (v : Valid t) where
   same = record { valid = v; min = refl; max = refl; mode = refl; passes = omega arith; follower = same-follower t }
 
 -- what holds of the changed track holds where the number or position is in its range
-on-natural : (P : Track → Type 0) (t : Track) (n : ℤ) (least most : ℕ) (f : ℕ → Changed) → P t →
-    ((k : ℕ) → least ≤ k → k ≤ most → P (f k .track)) → P (onNatural (naturalOf n least most) f (refused 3 t) .track)
-on-natural P t n least most f kept does = go (naturalOf n least most) refl
+on-natural : (P : Track → Type 0) (t : Track) (n : ℤ) (least most : ℕ) (f : ℕ → Changed) (other : ℕ) → P t →
+    ((k : ℕ) → least ≤ k → k ≤ most → P (f k .track)) → P (onNatural (naturalOf n least most) f (refused other t) .track)
+on-natural P t n least most f other kept does = go (naturalOf n least most) refl
   where
-    go : (r : Natural) → naturalOf n least most ≡ r → P (onNatural r f (refused 3 t) .track)
+    go : (r : Natural) → naturalOf n least most ≡ r → P (onNatural r f (refused other t) .track)
     go (natural.In k) e = let b = natural-in n least most e in does k (b .1) (b .2)
     go natural.Outside e = kept
 
@@ -123,6 +125,14 @@ module _ (t : Track) (v : Valid t) where
         repeat = v .repeat;
         due = omega arith;
         cells = v .cells;
+        rate =
+            record {
+              some = v .rate .some;
+              most = v .rate .most;
+              last = v .rate .last;
+              below = omega (arith, v .rate);
+              stands = λ _. refl;
+            };
       }
 
   start-keeps : (p : ℤ) → Keeps t (startSet t p .track)
@@ -157,6 +167,7 @@ module _ (t : Track) (v : Valid t) where
               repeat = r;
               due = v .due;
               cells = v .cells;
+              rate = v .rate;
             };
         min = refl;
         max = refl;
@@ -167,17 +178,17 @@ module _ (t : Track) (v : Valid t) where
 
   loops-keeps : (n : ℤ) → Keeps t (loopsSet t n .track)
   unfolding loopsSet
-  loops-keeps n = on-natural (Keeps t) t n 1 loopsMost _ (same t v) (λ k low high. set-keeps k (t .repeat) (t .direction) (low, high) (v .repeat) (v .direction))
+  loops-keeps n = on-natural (Keeps t) t n 1 loopsMost _ 3 (same t v) (λ k low high. set-keeps k (t .repeat) (t .direction) (low, high) (v .repeat) (v .direction))
 
   repeat-keeps : (f : ℤ) → Keeps t (repeatSet t f .track)
   unfolding repeatSet
-  repeat-keeps f = on-natural (Keeps t) t f 0 1 _ (same t v) (λ k low high. set-keeps (t .loops) k (t .direction) (v .loops) high (v .direction))
+  repeat-keeps f = on-natural (Keeps t) t f 0 1 _ 3 (same t v) (λ k low high. set-keeps (t .loops) k (t .direction) (v .loops) high (v .direction))
 
   -- put on a place of its span and due, a track keeps what it kept
   due-keeps : (u : Track) → Keeps t u → (l : ℕ) → (u .start .0 ≤ l) × (l ≤ u .end .0) → Keeps t (moved u (u .mode) l (u .passes .0) DUE)
   due-keeps u k l h =
       record {
-        valid = moved-valid u (k .valid) (u .mode) l (u .passes .0) DUE (k .valid .mode) (omega arith) h;
+        valid = moved-valid u (k .valid) (u .mode) l (u .passes .0) DUE (k .valid .mode) (omega arith) h (k .valid .rate .stands);
         min = k .min;
         max = k .max;
         mode = k .mode;
@@ -189,7 +200,7 @@ module _ (t : Track) (v : Valid t) where
   direction-keeps : (d : ℤ) → Keeps t (directionSet t d .track)
   unfolding directionSet turnedTo
   direction-keeps d =
-      on-natural (Keeps t) t d 0 1 _ (same t v)
+      on-natural (Keeps t) t d 0 1 _ 3 (same t v)
       (λ k low high. let u = set-keeps (t .loops) (t .repeat) k (v .loops) (v .repeat) high in
       cond-cases (Keeps t) (eqb (t .mode) STOPPED)
       (λ _. spanned (turned t k) (rewound-valid (t .start) (t .end) k high (omega arith) (omega arith) (omega arith)) refl refl refl
@@ -199,9 +210,9 @@ module _ (t : Track) (v : Valid t) where
   action-keeps : (from to event : ℤ) → Keeps t (actionSet t from to event .track)
   unfolding actionSet
   action-keeps from to event =
-      on-natural (Keeps t) t from 0 3 _ (same t v)
-      (λ a la ha. on-natural (Keeps t) t to 0 3 _ (same t v)
-      (λ b lb hb. on-natural (Keeps t) t event 0 cellMost _ (same t v)
+      on-natural (Keeps t) t from 0 3 _ 3 (same t v)
+      (λ a la ha. on-natural (Keeps t) t to 0 3 _ 3 (same t v)
+      (λ b lb hb. on-natural (Keeps t) t event 0 cellMost _ 3 (same t v)
       (λ e le he. cond-cases (λ (r : Changed). Keeps t (r .track)) (eqb a b) (λ _. same t v)
       (λ n. record {
         valid =
@@ -213,6 +224,7 @@ module _ (t : Track) (v : Valid t) where
               repeat = v .repeat;
               due = v .due;
               cells = set-cells (t .actions) a b e ha hb he (eqb-false a b n) (v .cells);
+              rate = v .rate;
             };
         min = refl;
         max = refl;
@@ -227,16 +239,50 @@ module _ (t : Track) (v : Valid t) where
       on-place (Keeps t) t (t .start .0) (t .end .0) (coordinateOf p) _ (same t v)
       (λ c low high. due-keeps t (same t v) (c .0) (low, high))
 
+  -- a rate; a STOPPED track has no remainder
+  rate-keeps : (p q : ℤ) → t .mode ≡ STOPPED → Keeps t (rateSet t p q .track)
+  unfolding rateSet
+  rate-keeps p q stopped =
+      on-natural (Keeps t) t p 1 rateMost _ 11 (same t v)
+      (λ a la ha. on-natural (Keeps t) t q 1 rateMost _ 11 (same t v)
+      (λ b lb hb. cond-cases (λ (r : Changed). Keeps t (r .track)) (ltb b a) (λ _. same t v)
+      (λ e. record {
+        valid =
+            record {
+              ordered = v .ordered;
+              loops = v .loops;
+              mode = v .mode;
+              direction = v .direction;
+              repeat = v .repeat;
+              due = v .due;
+              cells = v .cells;
+              rate =
+                  record {
+                    some = la;
+                    most = ltb-false b a e;
+                    last = hb;
+                    below = omega (arith, v .rate .stands stopped);
+                    stands = v .rate .stands;
+                  };
+            };
+        min = refl;
+        max = refl;
+        mode = refl;
+        passes = omega arith;
+        follower = record { master = refl; band = refl; thresholds = refl; events = refl };
+      })))
+
   -- no set-up change breaks a rule of a track, moves its bounds or its mode, or adds a pass
   pub changed-keeps : (c : Change) → Keeps t (changedBy t c .track)
-  unfolding changedBy setBy
-  changed-keeps c = cond-cases (λ (r : Changed). Keeps t (r .track)) (permits c (t .mode)) (λ _. by c) (λ _. same t v)
+  unfolding changedBy setBy permits
+  changed-keeps c = cond-cases (λ (r : Changed). Keeps t (r .track)) (permits c (t .mode)) (λ e. by c e) (λ _. same t v)
     where
-      by : (c : Change) → Keeps t (setBy t c .track)
-      by (change.Start p) = start-keeps p
-      by (change.End p) = end-keeps p
-      by (change.Loops n) = loops-keeps n
-      by (change.Repeat f) = repeat-keeps f
-      by (change.Direction d) = direction-keeps d
-      by (change.Action from to event) = action-keeps from to event
-      by (change.Jump p) = jump-keeps p
+      by : (c : Change) → permits c (t .mode) ≡ true → Keeps t (setBy t c .track)
+      by (change.Start p) e = start-keeps p
+      by (change.End p) e = end-keeps p
+      by (change.Loops n) e = loops-keeps n
+      by (change.Repeat f) e = repeat-keeps f
+      by (change.Direction d) e = direction-keeps d
+      by (change.Action from to event) e = action-keeps from to event
+      by (change.Jump p) e = jump-keeps p
+      by (change.Rate p q) e = rate-keeps p q (eqb-true _ _ e)

@@ -6,7 +6,7 @@ use mathlib.Core.List.{List, [], _∷_}
 use lib.ListN.{getD, length}
 use lib.Dec.{ltb, leb, eqb}
 use Rattle.track.specs.Rule.{STOPPED, coordinateLast, thresholdCount, thresholdMost, eventMost, every}
-use Rattle.track.specs.Leap.{phase}
+use Rattle.track.specs.Stride.{phase}
 use Rattle.track.specs.declared.Track.{Track}
 use Rattle.track.specs.declared.Ticks.{Ticks}
 
@@ -69,6 +69,9 @@ banded t band =
       band = band;
       thresholds = t .thresholds;
       events = t .events;
+      steps = t .steps;
+      ticks = t .ticks;
+      remainder = t .remainder;
     }
 
 -- "Setting it makes the band none": the track with another master, other thresholds and their events
@@ -91,6 +94,9 @@ following t master thresholds events =
       band = 0;
       thresholds = thresholds;
       events = events;
+      steps = t .steps;
+      ticks = t .ticks;
+      remainder = t .remainder;
     }
 
 -- ---- the ranges and rules of a follower, for a lent track

@@ -1,55 +1,39 @@
--- Many steps at once. The walk is counted in locations from home, which is free of direction.
-use Prim.Native.Nat.{ℕ, zero, suc, _+_, _-_, _*_, _/_, _%_, max, min}
+-- Slower tracks (02, 2.4): what a tick does with a playing track of a rate of p steps in q ticks, and many ticks at once.
+use Prim.Native.Nat.{ℕ, suc, _+_, _-_, _*_, _/_, _%_, min}
 use mathlib.Core.Bool.{Bool, cond}
 use lib.Dec.{leb}
-use Rattle.track.specs.Rule.{clockEnd, VISITED, backward, repeats, moved}
-use Rattle.track.specs.Walk.{arrival, step}
+use Rattle.track.specs.Rule.{clockEnd, withRemainder}
+use Rattle.track.specs.Walk.{step}
+use Rattle.track.specs.Stride.{stride}
 use Rattle.track.specs.declared.Track.{Track}
 
--- the number of locations of the span, the distance of a location from home, and the location at a distance
-abbrev pub span : Track → ℕ
-span t = t .end .0 - t .start .0 + 1
+-- "In each tick that it plays, p is added to a remainder."
+abbrev pub added : Track → ℕ
+added t = t .remainder + t .steps
 
-abbrev pub phase : Track → ℕ → ℕ
-phase t l = cond (backward t) (t .end .0 - l) (l - t .start .0)
+-- "At q or more", a step is made
+unfoldable pub moves : Track → Bool
+moves t = leb (t .ticks) (added t)
 
-abbrev pub place : Track → ℕ → ℕ
-place t k = cond (backward t) (t .end .0 - k) (t .start .0 + k)
+-- "q is taken off": the remainder that the tick leaves, but for rewinding
+unfoldable pub remainderLeft : Track → ℕ
+remainderLeft t = cond (moves t) (added t - t .ticks) (added t)
 
--- the distance from home of the location that the next step reaches
-unfoldable pub next : Track → ℕ
-next t = phase t (arrival t)
+-- one tick of a playing track: "one step made", or none, and then the remainder alone changes
+unfoldable pub played : Track → Bool → Track
+played t wait = cond (moves t) (step (withRemainder t (remainderLeft t)) wait) (withRemainder t (remainderLeft t))
 
--- n steps that neither stop the track nor make it wait: the last of them reaches the location n - 1 after the next one,
--- counted round the span, and each end of a round is a pass
-abbrev pub leapPosition : Track → ℕ → ℕ
-leapPosition t zero = t .position .0
-leapPosition t (suc n) = place t ((next t + n) % span t)
+-- the steps made in n such ticks, and the remainder then
+unfoldable pub stepsIn : Track → ℕ → ℕ
+stepsIn t n = (t .remainder + n * t .steps) / t .ticks
 
-abbrev pub leapDue : ℕ → ℕ → ℕ
-leapDue due zero = due
-leapDue due (suc n) = VISITED
+unfoldable pub remainderAfter : Track → ℕ → ℕ
+remainderAfter t n = (t .remainder + n * t .steps) % t .ticks
 
+-- n ticks of a playing track, none of which stops it or makes it wait
 unfoldable pub leap : Track → ℕ → Track
-leap t n = moved t (t .mode) (leapPosition t n) (t .passes .0 + (next t + n) / span t) (leapDue (t .due) n)
+leap t n = withRemainder (stride t (stepsIn t n)) (remainderAfter t n)
 
--- n single steps, where `wait` says at which locations a point has a wait flag
-unfoldable pub walk : (ℕ → Bool) → Track → ℕ → Track
-walk wait t zero = t
-walk wait t (suc n) = step (walk wait t n) (wait (arrival (walk wait t n)))
-
--- the number of the step, counted from 1, that stops a track with repeat off
-unfoldable pub stopStep : Track → ℕ
-stopStep t = max 1 (t .loops - t .passes .0) * span t - next t
-
--- the steps before the one that stops the track, at most the clock's end
-unfoldable pub running : Track → ℕ
-running t = cond (repeats t) clockEnd (min clockEnd (stopStep t - 1))
-
--- the steps from place c to place f of a cycle of n places
-abbrev pub ahead : ℕ → ℕ → ℕ → ℕ
-ahead c f n = cond (leb c f) (f - c) (f + n - c)
-
--- the steps before the first that reaches the location l of the span
-unfoldable pub stepsTo : Track → ℕ → ℕ
-stepsTo t l = ahead (next t) (phase t l) (span t)
+-- the ticks before the one that makes step s + 1, at most the clock's end
+unfoldable pub ticksBefore : Track → ℕ → ℕ
+ticksBefore t s = min clockEnd ((suc s * t .ticks - t .remainder - 1) / t .steps)

@@ -2,6 +2,7 @@ pub mod Number
 pub mod Rule
 pub mod Grid
 pub mod Walk
+pub mod Stride
 pub mod Leap
 pub mod Setup
 pub mod Flip

@@ -1,6 +1,6 @@
 -- A track's state and rules (01, "Track").
 use Prim.Native.Nat.{ℕ, _+_, _*_, _≤_, _<_}
-use mathlib.Core.Bool.{Bool, cond, true, false, _&&_}
+use mathlib.Core.Bool.{Bool, cond, true, false, not, _&&_, _||_}
 use mathlib.Core.Path.{_≡_}
 use mathlib.Core.List.{List, [], _∷_}
 use lib.ListN.{replicate, getD, length}
@@ -67,6 +67,10 @@ thresholdMost = 1000000
 abbrev pub eventMost : ℕ
 eventMost = 255
 
+-- the greatest number of a rate (02, 2.4)
+abbrev pub rateMost : ℕ
+rateMost = 1000
+
 -- the coordinate of the position 1,000,000
 abbrev pub coordinateLast : ℕ
 coordinateLast = 2000000
@@ -75,7 +79,7 @@ coordinateLast = 2000000
 abbrev pub clockEnd : ℕ
 clockEnd = 1000000000
 
--- A new track: start = min, end = max, forward, repeat off, loops 1, all actions 0, STOPPED, rewound; it has no master.
+-- A new track: start = min, end = max, forward, repeat off, loops 1, all actions 0, STOPPED, rewound; it has no master and a rate of 1 in 1.
 unfoldable pub newTrack : Coordinate → Coordinate → Track
 newTrack a b =
     record {
@@ -95,6 +99,9 @@ newTrack a b =
       band = 0;
       thresholds = replicate thresholdCount 0;
       events = replicate thresholdCount 0;
+      steps = 1;
+      ticks = 1;
+      remainder = 0;
     }
 
 -- The home position is start when forward, end when backward; the far position is the other.
@@ -124,15 +131,47 @@ moved t mode position passes due =
       band = t .band;
       thresholds = t .thresholds;
       events = t .events;
+      steps = t .steps;
+      ticks = t .ticks;
+      remainder = t .remainder;
     }
 
--- rewound: position home, due set, passes 0
+-- the track with another rate, of so many steps in so many ticks, and another remainder
+abbrev pub paced : Track → ℕ → ℕ → ℕ → Track
+paced t steps ticks remainder =
+    record {
+      min = t .min;
+      max = t .max;
+      start = t .start;
+      end = t .end;
+      position = t .position;
+      passes = t .passes;
+      loops = t .loops;
+      mode = t .mode;
+      direction = t .direction;
+      repeat = t .repeat;
+      due = t .due;
+      actions = t .actions;
+      master = t .master;
+      band = t .band;
+      thresholds = t .thresholds;
+      events = t .events;
+      steps = steps;
+      ticks = ticks;
+      remainder = remainder;
+    }
+
+-- the track with another remainder
+abbrev pub withRemainder : Track → ℕ → Track
+withRemainder t remainder = paced t (t .steps) (t .ticks) remainder
+
+-- rewound: position home, due set, passes 0; "Rewinding sets the remainder to 0" (02, 2.4)
 abbrev pub rewound : Track → Track
-rewound t = moved t (t .mode) (home t) 0 DUE
+rewound t = withRemainder (moved t (t .mode) (home t) 0 DUE) 0
 
 -- STOPPED and rewound
 abbrev pub stopped : Track → Track
-stopped t = moved t STOPPED (home t) 0 DUE
+stopped t = withRemainder (moved t STOPPED (home t) 0 DUE) 0
 
 -- the track that a call or a command takes to a mode: stop rewinds, from STOPPED also
 unfoldable pub entered : Track → ℕ → Track
@@ -161,6 +200,14 @@ pub record Cells (cells : List ℕ) : Type 0 where
   pub paused : getD cells 10 0 ≡ 0
   pub waiting : getD cells 15 0 ≡ 0
 
+-- "p steps in q ticks, 1 ≤ p ≤ q ≤ 1,000"; the remainder "is below q, and 0 when STOPPED" (02, 2.4)
+pub record Rated (steps ticks remainder mode : ℕ) : Type 0 where
+  pub some : 1 ≤ steps
+  pub most : steps ≤ ticks
+  pub last : ticks ≤ rateMost
+  pub below : remainder < ticks
+  pub stands : mode ≡ STOPPED → remainder ≡ 0
+
 -- Every range and rule of a track by itself.
 pub record Valid (t : Track) : Type 0 where
   pub ordered : Ordered (t .min .0) (t .max .0) (t .start .0) (t .end .0) (t .position .0)
@@ -170,6 +217,7 @@ pub record Valid (t : Track) : Type 0 where
   pub repeat : t .repeat ≤ REPEATING
   pub due : t .due ≤ DUE
   pub cells : Cells (t .actions)
+  pub rate : Rated (t .steps) (t .ticks) (t .remainder) (t .mode)
 
 -- A pass count, never above the board's clock.
 pub record Sound (t : Track) (clock : Ticks) : Type 0 where
@@ -208,6 +256,16 @@ cellsTest cells =
     ∷ eqb (getD cells 15 0) 0
     ∷ [])
 
+unfoldable pub ratedTest : ℕ → ℕ → ℕ → ℕ → Bool
+ratedTest steps ticks remainder mode =
+    every
+    (leb 1 steps
+    ∷ leb steps ticks
+    ∷ leb ticks rateMost
+    ∷ ltb remainder ticks
+    ∷ (not (eqb mode STOPPED) || eqb remainder 0)
+    ∷ [])
+
 unfoldable pub validTest : Track → Bool
 validTest t =
     every
@@ -219,6 +277,7 @@ validTest t =
     ∷ leb (t .repeat) REPEATING
     ∷ leb (t .due) DUE
     ∷ cellsTest (t .actions)
+    ∷ ratedTest (t .steps) (t .ticks) (t .remainder) (t .mode)
     ∷ [])
 
 unfoldable pub soundTest : Track → Ticks → Bool

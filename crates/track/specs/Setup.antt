@@ -1,10 +1,10 @@
--- The set-up changes of a track, as far as the track alone decides them (01, "Other calls" and "Turned down"; 02, 2.3).
+-- The set-up changes of a track, as far as the track alone decides them (01, "Other calls" and "Turned down"; 02, 2.3 and 2.4).
 use Prim.Native.Nat.{ℕ, _+_, _*_}
 use mathlib.Core.Bool.{Bool, cond, not, _&&_, _||_}
 use lib.ListN.{set}
 use lib.IntN.{ℤ}
 use lib.Dec.{eqb, ltb}
-use Rattle.track.specs.Rule.{STOPPED, PAUSED, VISITED, DUE, loopsMost, cellMost, far, moved, rewound}
+use Rattle.track.specs.Rule.{STOPPED, PAUSED, VISITED, DUE, loopsMost, cellMost, rateMost, far, moved, paced, rewound}
 use Rattle.track.specs.Number.{naturalOf, coordinateOf, within, onNatural, onPlace}
 use Rattle.track.specs.declared.Track.{Track}
 use Rattle.track.specs.declared.Coordinate.{Coordinate}
@@ -40,6 +40,9 @@ setTo t start end loops repeat direction =
       band = t .band;
       thresholds = t .thresholds;
       events = t .events;
+      steps = t .steps;
+      ticks = t .ticks;
+      remainder = t .remainder;
     }
 
 abbrev pub withAction : Track → ℕ → ℕ → Track
@@ -61,13 +64,16 @@ withAction t at event =
       band = t .band;
       thresholds = t .thresholds;
       events = t .events;
+      steps = t .steps;
+      ticks = t .ticks;
+      remainder = t .remainder;
     }
 
 -- STOPPED or PAUSED
 unfoldable pub settled : ℕ → Bool
 settled mode = eqb mode STOPPED || eqb mode PAUSED
 
--- start, end: STOPPED only; loops, repeat, direction, action, jump: STOPPED or PAUSED
+-- start, end, rate: STOPPED only; loops, repeat, direction, action, jump: STOPPED or PAUSED
 unfoldable pub permits : Change → ℕ → Bool
 permits (change.Start p) mode = eqb mode STOPPED
 permits (change.End p) mode = eqb mode STOPPED
@@ -76,6 +82,7 @@ permits (change.Repeat f) mode = settled mode
 permits (change.Direction d) mode = settled mode
 permits (change.Action from to event) mode = settled mode
 permits (change.Jump p) mode = settled mode
+permits (change.Rate p q) mode = eqb mode STOPPED
 
 -- start: min ≤ start < end; rewinds
 unfoldable pub startSet : Track → ℤ → Changed
@@ -137,7 +144,14 @@ jumpTo t p =
     onPlace (within (t .start .0) (t .end .0) (coordinateOf p))
     (λ c. accepted (moved t (t .mode) (c .0) (t .passes .0) DUE)) (refused 3 t)
 
--- what a change gives where the mode allows it: 3 for a value outside its range or rule
+-- "a rate of p steps in q ticks, 1 ≤ p ≤ q ≤ 1,000"; "11, in the place of 3, if the rate breaks its range" (02, 2.4); it does not rewind
+unfoldable pub rateSet : Track → ℤ → ℤ → Changed
+rateSet t p q =
+    onNatural (naturalOf p 1 rateMost)
+    (λ a. onNatural (naturalOf q 1 rateMost)
+    (λ b. cond (ltb b a) (refused 11 t) (accepted (paced t a b (t .remainder)))) (refused 11 t)) (refused 11 t)
+
+-- what a change gives where the mode allows it: 3 for a value outside its range or rule, 11 for such a rate
 unfoldable pub setBy : Track → Change → Changed
 setBy t (change.Start p) = startSet t p
 setBy t (change.End p) = endSet t p
@@ -146,7 +160,8 @@ setBy t (change.Repeat f) = repeatSet t f
 setBy t (change.Direction d) = directionSet t d
 setBy t (change.Action from to event) = actionSet t from to event
 setBy t (change.Jump p) = jumpTo t p
+setBy t (change.Rate p q) = rateSet t p q
 
--- 2 mode does not allow the call, then 3
+-- 2 mode does not allow the call, then 3 or 11
 unfoldable pub changedBy : Track → Change → Changed
 changedBy t c = cond (permits c (t .mode)) (setBy t c) (refused 2 t)

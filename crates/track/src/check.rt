@@ -3,7 +3,7 @@ use crate::Coordinate;
 use crate::Ticks;
 use crate::Track;
 ghost use mathlib.Core.Path.{_≡_};
-ghost use Rattle.track.specs.Rule.{orderedTest, cellsTest, validTest, soundTest};
+ghost use Rattle.track.specs.Rule.{orderedTest, cellsTest, ratedTest, validTest, soundTest};
 
 // The order of a track's coordinates.
 fn ordered(min: u32, max: u32, start: u32, end: u32, position: u32) -> bool
@@ -52,6 +52,28 @@ fn cells_kept(cells: [u8; Track::CELLS]) -> bool
     true
 }
 
+// The rules of a rate and its remainder.
+fn rated(steps: u16, ticks: u16, remainder: u32, mode: u8) -> bool
+    ensures { λ r. ⌜ r ≡ ratedTest steps ticks remainder mode ⌝ }
+{
+    if steps == 0 {
+        return false;
+    }
+    if ticks < steps {
+        return false;
+    }
+    if Track::RATE < ticks as u32 {
+        return false;
+    }
+    if ticks as u32 <= remainder {
+        return false;
+    }
+    if mode != Track::STOPPED {
+        return true;
+    }
+    remainder == 0
+}
+
 impl Track {
     // Every range and rule of a track by itself.
     pub fn valid(self) -> bool
@@ -82,7 +104,10 @@ impl Track {
         if self.due > Track::DUE {
             return false;
         }
-        cells_kept(cells)
+        if !cells_kept(cells) {
+            return false;
+        }
+        rated(self.steps, self.ticks, self.remainder, self.mode)
     }
 
     // Valid, and the passes are not above the clock.

@@ -10,7 +10,7 @@ ghost use Rattle.track.specs.Rule.{Valid, coordinateLast, thresholdMost,
 ghost use Rattle.track.specs.Follow.{upToZero, thresholdsOf, distance, apart, bandOf, judged, following, zerosTest, pairsTest, followerTest};
 
 // The drift: the absolute difference between two distances.
-fn apart(x: u32, y: u32) -> u32
+pub fn apart(x: u32, y: u32) -> u32
     ensures { λ r. ⌜ r ≡ apart x y ⌝ }
 {
     if x <= y {
@@ -19,13 +19,20 @@ fn apart(x: u32, y: u32) -> u32
     x - y
 }
 
-// Whether a row of thresholds or events has only 0 from a place on.
-fn zeros_from(row: [u32; Track::THRESHOLDS], from: usize) -> bool
-    ensures { λ r. ⌜ r ≡ zerosTest (drop from row) ⌝ }
+// Whether thresholds and events have only 0 from a place on.
+fn zeros_from(
+    thresholds: [u32; Track::THRESHOLDS],
+    events: [u16; Track::THRESHOLDS],
+    from: usize,
+) -> bool
+    ensures { λ r. ⌜ r ≡ (zerosTest (drop from thresholds) && zerosTest (drop from events)) ⌝ }
 {
     let mut k = from;
     while k < Track::THRESHOLDS {
-        if row[k] != 0 {
+        if thresholds[k] != 0 {
+            return false;
+        }
+        if events[k] != 0 {
             return false;
         }
         k += 1;
@@ -34,7 +41,7 @@ fn zeros_from(row: [u32; Track::THRESHOLDS], from: usize) -> bool
 }
 
 // Whether a threshold is above the one before it and in its range, and its event in its own.
-fn pair_kept(low: u32, threshold: u32, event: u32) -> bool
+fn pair_kept(low: u32, threshold: u32, event: u16) -> bool
     ensures { λ r. ⌜ r ≡ (ltb low threshold && (leb threshold thresholdMost && (leb 1 event && leb event eventMost))) ⌝ }
 {
     if threshold <= low {
@@ -46,11 +53,11 @@ fn pair_kept(low: u32, threshold: u32, event: u32) -> bool
     if event == 0 {
         return false;
     }
-    event <= Track::EVENT
+    event as u32 <= Track::EVENT
 }
 
 // Whether thresholds and events keep their rules.
-pub fn pairs_kept(thresholds: [u32; Track::THRESHOLDS], events: [u32; Track::THRESHOLDS]) -> bool
+pub fn pairs_kept(thresholds: [u32; Track::THRESHOLDS], events: [u16; Track::THRESHOLDS]) -> bool
     ensures { λ r. ⌜ r ≡ pairsTest 0 thresholds events ⌝ }
 {
     let mut low: u32 = 0;
@@ -59,10 +66,7 @@ pub fn pairs_kept(thresholds: [u32; Track::THRESHOLDS], events: [u32; Track::THR
         let x = thresholds[k];
         let e = events[k];
         if x == 0 {
-            if !zeros_from(thresholds, k) {
-                return false;
-            }
-            return zeros_from(events, k);
+            return zeros_from(thresholds, events, k);
         }
         if !pair_kept(low, x, e) {
             return false;
@@ -112,7 +116,7 @@ impl Track {
         mut self,
         master: u8,
         thresholds: [u32; Track::THRESHOLDS],
-        events: [u32; Track::THRESHOLDS],
+        events: [u16; Track::THRESHOLDS],
     ) -> Track
         ensures { λ r. ⌜ r ≡ following self master thresholds events ⌝ }
     {

@@ -7,9 +7,10 @@ ghost use Prim.Native.Nat.{_≤_};
 mod check;
 pub mod follow;
 pub mod grid;
-mod leap;
 pub mod number;
+mod rate;
 pub mod setup;
+mod stride;
 mod walk;
 
 // A position of 01, PREMO's coordinate C, kept as position + 1,000,000 so that it has no sign inside.
@@ -49,7 +50,12 @@ pub struct Track {
     // Strictly rising; 0 stands for none, and behind a 0 there are only 0.
     pub thresholds: [u32; Track::THRESHOLDS],
     // Beside each threshold its event; 0 beside none.
-    pub events: [u32; Track::THRESHOLDS],
+    pub events: [u16; Track::THRESHOLDS],
+    // The rate: so many steps in so many ticks.
+    pub steps: u16,
+    pub ticks: u16,
+    // What the ticks have added up to beyond the last step. Its width fills the track up to a multiple of 16 bytes.
+    pub remainder: u32,
 }
 
 impl Coordinate {
@@ -98,7 +104,10 @@ impl Track {
     // The greatest threshold.
     pub const THRESHOLD: u32 = 1000000;
 
-    // A new track: start = min, end = max, forward, repeat off, loops 1, all actions 0, STOPPED, rewound, no master.
+    // The greatest number of a rate.
+    pub const RATE: u32 = 1000;
+
+    // A new track: start = min, end = max, forward, repeat off, loops 1, all actions 0, STOPPED, rewound, no master, 1 in 1.
     pub fn new(min: Coordinate, max: Coordinate) -> Self
         ensures { λ r. ⌜ r ≡ newTrack min max ⌝ }
     {
@@ -118,7 +127,10 @@ impl Track {
             master: 0,
             band: 0,
             thresholds: [0u32; Track::THRESHOLDS],
-            events: [0u32; Track::THRESHOLDS],
+            events: [0u16; Track::THRESHOLDS],
+            steps: 1,
+            ticks: 1,
+            remainder: 0,
         }
     }
 
@@ -155,11 +167,22 @@ impl Track {
         self
     }
 
-    // Rewound: position home, due set, passes 0.
+    // Rewound: position home, due set, passes 0, remainder 0.
     fn rewound(self) -> Track
         ensures { λ r. ⌜ r ≡ rewound self ⌝ }
     {
-        self.moved(self.mode, self.home(), Passes(0), Track::DUE)
+        let mut next = self.moved(self.mode, self.home(), Passes(0), Track::DUE);
+        next.remainder = 0;
+        next
+    }
+
+    // STOPPED and rewound.
+    fn stopped(self) -> Track
+        ensures { λ r. ⌜ r ≡ stopped self ⌝ }
+    {
+        let mut next = self.rewound();
+        next.mode = Track::STOPPED;
+        next
     }
 
     // The track as a call or a command that goes to this mode leaves it: STOPPED rewinds.
@@ -167,7 +190,7 @@ impl Track {
         ensures { λ r. ⌜ r ≡ entered self mode ⌝ }
     {
         if mode == Track::STOPPED {
-            return self.moved(mode, self.home(), Passes(0), Track::DUE);
+            return self.stopped();
         }
         self.moved(mode, self.position, self.passes, self.due)
     }

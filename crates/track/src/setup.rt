@@ -6,7 +6,7 @@ use crate::number::Place;
 use crate::number::in_range;
 ghost use mathlib.Core.Path.{_≡_};
 ghost use Rattle.track.specs.Setup.{refused, accepted, settled, permits, startSet, endSet, loopsSet, repeatSet};
-ghost use Rattle.track.specs.Setup.{closes, turnedTo, directionSet, actionSet, jumpTo, changedBy};
+ghost use Rattle.track.specs.Setup.{closes, turnedTo, directionSet, actionSet, jumpTo, rateSet, changedBy};
 
 // A set-up change with the numbers of its call.
 pub enum Change {
@@ -18,6 +18,8 @@ pub enum Change {
     // From, to, event.
     Action(i64, i64, i64),
     Jump(i64),
+    // Steps, ticks.
+    Rate(i64, i64),
 }
 
 // What a call answers: accepted, or refused with 01's number.
@@ -57,6 +59,9 @@ impl Answer {
 
     // Thresholds that do not rise, or more than four.
     pub const RISING: u8 = 10;
+
+    // A rate outside its range (02, 2.4).
+    pub const RATE: u8 = 11;
 }
 
 // The answer to a change, and the track after it.
@@ -105,6 +110,7 @@ fn permits(change: Change, mode: u8) -> bool
         Change::Direction(_) => settled(mode),
         Change::Action(_, _, _) => settled(mode),
         Change::Jump(_) => settled(mode),
+        Change::Rate(_, _) => mode == Track::STOPPED,
     }
 }
 
@@ -246,7 +252,26 @@ impl Track {
         accepted(self.moved(self.mode, c, self.passes, Track::DUE))
     }
 
-    // A set-up change: refused 2 where the mode does not allow it, then 3 for its value.
+    // A rate of p steps in q ticks. It does not rewind.
+    fn set_rate(self, p: i64, q: i64) -> Changed
+        ensures { λ r. ⌜ r ≡ rateSet self p q ⌝ }
+    {
+        let Natural::In(steps) = in_range(p, 1, Track::RATE) else {
+            return refused(Answer::RATE, self);
+        };
+        let Natural::In(ticks) = in_range(q, 1, Track::RATE) else {
+            return refused(Answer::RATE, self);
+        };
+        if ticks < steps {
+            return refused(Answer::RATE, self);
+        }
+        let mut next = self;
+        next.steps = steps as u16;
+        next.ticks = ticks as u16;
+        accepted(next)
+    }
+
+    // A set-up change: refused 2 where the mode does not allow it, then 3 for its value, or 11 for a rate.
     pub fn changed(self, change: Change) -> Changed
         ensures { λ r. ⌜ r ≡ changedBy self change ⌝ }
     {
@@ -262,6 +287,7 @@ impl Track {
             Change::Direction(d) => self.set_direction(d),
             Change::Action(from, to, event) => self.set_action(from, to, event),
             Change::Jump(p) => self.jump(p),
+            Change::Rate(p, q) => self.set_rate(p, q),
         }
     }
 }

@@ -70,7 +70,7 @@ impl Track {
         ensures { λ r. ⌜ r ≡ step self wait ⌝ }
     {
         if self.stops() {
-            return self.moved(Track::STOPPED, self.home(), Passes(0), Track::DUE);
+            return self.stopped();
         }
         let l = self.arrival();
         let passes = self.passes_at(l);

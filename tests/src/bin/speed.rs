@@ -32,6 +32,11 @@ fn few_points() -> Vec<Call> {
     [&[Track(0, -1_000_000, 1_000_000), Repeat(0, 1)], &points[..], &[Play(0)]].concat()
 }
 
+/// The same at a rate.
+fn few_points_at(p: i64, q: i64) -> Vec<Call> {
+    [few_points(), vec![Stop(0), Rate(0, p, q), Play(0)]].concat()
+}
+
 /// Ten points and one pass over a span of so many locations.
 fn ten_points(last: i64) -> Vec<Call> {
     let points: Vec<Call> = (0..10).map(|n| Point(0, last * n / 10, 1, 0, 0, 0)).collect();
@@ -68,6 +73,13 @@ fn in_step() -> Vec<Call> {
 /// A follower of 10 locations beside a master of 1,000: two records in each of the master's rounds.
 fn unequal_spans() -> Vec<Call> {
     let tracks = [Track(0, 0, 999), Track(1, 0, 9), Repeat(0, 1), Repeat(1, 1)];
+    let led = [Master(1, 0, Pairs::new(&[[50, 5], [500, 6]])), Play(0), Play(1)];
+    [&tracks[..], &led].concat()
+}
+
+/// Two tracks of 1,000 locations at 1 in 1 and at 999 in 1,000: with each round they drift apart by one location.
+fn unequal_rates() -> Vec<Call> {
+    let tracks = [Track(0, 0, 999), Track(1, 0, 999), Repeat(0, 1), Repeat(1, 1), Rate(1, 999, 1_000)];
     let led = [Master(1, 0, Pairs::new(&[[50, 5], [500, 6]])), Play(0), Play(1)];
     [&tracks[..], &led].concat()
 }
@@ -122,6 +134,8 @@ fn cases() -> Vec<Case> {
         whole("two locations, whole clock", two_locations(), 50),
         whole(IN_STEP, in_step(), 50),
         whole("follower, spans 10 and 1,000, until 4,096 records", unequal_spans(), 1),
+        whole("three points at 1 in 3, whole clock", few_points_at(1, 3), 4),
+        whole("follower, 999 in 1,000 beside 1 in 1, until 4,096 records", unequal_rates(), 1),
         whole("dense board until 4,096 records", dense(), 4),
         case("100 advances of one tick", typical(), vec![Advance(1); 100], 10),
         case("100 mode calls", typical(), [[Pause(1), Resume(1)]; 50].concat(), 10),

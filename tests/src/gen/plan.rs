@@ -16,6 +16,8 @@ pub enum Profile {
     Followers,
     /// few tracks of two to five locations, turned right behind an arrival on home or far
     Turns,
+    /// few tracks of short spans at rates of their own, some in pairs of one rate, resting now and then
+    Rates,
     /// about 256 points
     Full,
 }
@@ -28,7 +30,7 @@ impl Profile {
 }
 
 /// Full, whose lists are long, is the last.
-pub const PROFILES: [Profile; 9] = [
+pub const PROFILES: [Profile; 10] = [
     Profile::Typical,
     Profile::Dense,
     Profile::Edges,
@@ -37,6 +39,7 @@ pub const PROFILES: [Profile; 9] = [
     Profile::Queries,
     Profile::Followers,
     Profile::Turns,
+    Profile::Rates,
     Profile::Full,
 ];
 
@@ -63,6 +66,9 @@ pub struct Plan {
     pub turns: i64,
     /// positions in a hundred that are home or far, whatever else is drawn
     pub ends: i64,
+    /// rate calls in a hundred set-up calls
+    pub rates: i64,
+    pub rated: Option<Rated>,
     /// the most ticks of an advance that nothing stops
     pub large: i64,
 }
@@ -80,6 +86,18 @@ pub struct Followers {
     pub moves: i64,
     /// clears after an advance that the log stopped
     pub clears: i64,
+}
+
+/// What only lists with many rates have; in a hundred.
+pub struct Rated {
+    /// tracks with a rate in the set-up
+    pub slow: i64,
+    /// rates that are the list's one
+    pub alike: i64,
+    /// draws that are a track's rest
+    pub rests: i64,
+    /// advances whose count goes by a track's next step
+    pub till_steps: i64,
 }
 
 /// More ticks than these are asked only of a board that stops before.
@@ -100,6 +118,8 @@ const USUAL: Plan = Plan {
     followers: None,
     turns: 2,
     ends: 0,
+    rates: 4,
+    rated: None,
     large: LARGE,
 };
 
@@ -128,6 +148,21 @@ const TURNS: Plan = Plan {
     ..USUAL
 };
 
+const RATES: Plan = Plan {
+    tracks: 6,
+    points: 8,
+    reach: 9,
+    wild: 3,
+    weights: [20, 25, 48, 3, 4],
+    masters: 15,
+    followers: Some(Followers { near: 5, alike: 50, led: 60, repeats: 60, moves: 6, clears: 60 }),
+    turns: 4,
+    rates: 40,
+    rated: Some(Rated { slow: 85, alike: 40, rests: 12, till_steps: 35 }),
+    large: 20_000,
+    ..USUAL
+};
+
 pub fn plan(profile: Profile) -> Plan {
     match profile {
         Profile::Typical => USUAL,
@@ -140,6 +175,7 @@ pub fn plan(profile: Profile) -> Plan {
         Profile::Queries => Plan { calls: 80, wild: 4, weights: [15, 15, 25, 2, 60], ..USUAL },
         Profile::Followers => FOLLOWERS,
         Profile::Turns => TURNS,
+        Profile::Rates => RATES,
         // Spans so long that 700 points come to more than 256 places, so that refusal 5 comes often.
         Profile::Full => Plan { tracks: 16, points: 700, reach: 150, weights: [50, 15, 20, 2, 20], ..USUAL },
     }

@@ -22,7 +22,10 @@ pub struct Track {
     pub master: u8,
     pub band: u8,
     pub thresholds: [u32; 4],
-    pub events: [u32; 4],
+    pub events: [u16; 4],
+    pub steps: u16,
+    pub ticks: u16,
+    pub remainder: u32,
 }
 
 #[repr(C)]
@@ -102,7 +105,9 @@ impl Track {
         numbers[11..27].copy_from_slice(&self.actions.map(u64::from));
         numbers[27..29].copy_from_slice(&[self.master, self.band].map(u64::from));
         numbers[29..33].copy_from_slice(&self.thresholds.map(u64::from));
-        numbers[33..].copy_from_slice(&self.events.map(u64::from));
+        numbers[33..37].copy_from_slice(&self.events.map(u64::from));
+        numbers[37..39].copy_from_slice(&[self.steps, self.ticks].map(u64::from));
+        numbers[39] = u64::from(self.remainder);
         numbers
     }
 

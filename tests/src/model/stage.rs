@@ -38,9 +38,13 @@ impl Stage {
         }
     }
 
-    /// One step of a PLAYING track: the point that it reaches.
+    /// A tick of a PLAYING track. By its rate one step is made, and this is the point that it reaches; or none is, and the
+    /// remainder alone changes.
     pub fn step(&mut self, number: usize, points: &BTreeMap<(i64, i64), Point>) -> Option<Point> {
         let track = self.track(number);
+        if !track.steps_now() {
+            return None;
+        }
         track.position = track.arrival();
         track.due = 0;
         let point = points.get(&(number as i64, track.position)).copied();

@@ -1,14 +1,14 @@
 //! A follower beside its master: how it is set, the band of the moment, and how long that lasts while both walk on.
 
-use super::{PLAYING, Peer, STOPPED, Track, between};
+use super::{PLAYING, Peer, STOPPED, Track, between, drift};
 use crate::call::refusal;
 use crate::track::{DRIFT_MOST, THRESHOLDS};
 
 /// More ticks than any clock has.
-const ALWAYS: i64 = i64::MAX;
+pub const ALWAYS: i64 = i64::MAX;
 
 /// How far from home.
-fn distance(track: &Track) -> u32 {
+pub fn distance(track: &Track) -> u32 {
     track.position.abs_diff(track.home())
 }
 
@@ -21,7 +21,7 @@ pub fn band(follower: &Track, master: &Track) -> u8 {
     follower.thresholds.iter().take_while(|&&threshold| threshold != 0 && threshold < drift).count() as u8
 }
 
-/// A track over the next ticks, none of which stops it: from its next place one further each tick, for so many ticks;
+/// A track at 1 in 1 over the next ticks, none of which stops it: from its next place one further each tick, for so many;
 /// or, for good, somewhere from `least` on, no further than `width` from it.
 struct Course {
     next: i64,
@@ -41,7 +41,7 @@ fn course(track: &Track) -> Course {
 }
 
 /// The drifts of the band held, from the first to the last.
-fn drifts(follower: &Track) -> (i64, i64) {
+pub fn drifts(follower: &Track) -> (i64, i64) {
     let held = usize::from(follower.band);
     let low = if held == 0 { 0 } else { i64::from(follower.thresholds[held - 1]) + 1 };
     let high = follower.thresholds.get(held).map_or(0, |&threshold| i64::from(threshold));
@@ -82,17 +82,25 @@ pub fn steady(follower: &Track, master: &Track) -> u64 {
     if follower.mode == STOPPED || master.mode == STOPPED {
         return if follower.band == 0 { ALWAYS as u64 } else { 0 };
     }
+    if !follower.every_tick() || !master.every_tick() {
+        return drift::steady(follower, master);
+    }
+    in_steps(follower, master) as u64
+}
+
+/// The same where those that play make a step in every tick, and neither is STOPPED.
+pub fn in_steps(follower: &Track, master: &Track) -> i64 {
     let drifts = drifts(follower);
     let step = in_step(follower, master, drifts);
     if step == ALWAYS {
-        return step as u64;
+        return step;
     }
     let (f, m) = (course(follower), course(master));
     let lines = lasts(f.next - m.next, 0, f.pace - m.pace, drifts).min(f.ticks).min(m.ticks);
     let line_f = lasts(f.next - m.least - m.width, m.width, f.pace, drifts).min(f.ticks);
     let line_m = lasts(f.least - m.next, f.width, -m.pace, drifts).min(m.ticks);
     let anywhere = lasts(f.least - m.least - m.width, f.width + m.width, 0, drifts);
-    lines.max(line_f).max(line_m).max(anywhere) as u64
+    lines.max(line_f).max(line_m).max(anywhere)
 }
 
 impl Peer {

@@ -107,6 +107,9 @@ impl Peer {
         while word != 0 {
             let number = word.trailing_zeros() as usize;
             word &= word - 1;
+            if !self.tracks[number].steps_now() {
+                continue;
+            }
             let position = self.tracks[number].arrival();
             let info = self.info((number as u32) << WIDTH | position);
             let track = &mut self.tracks[number];
@@ -161,7 +164,8 @@ impl Peer {
         let keys = &self.keys[..self.count];
         let mut ticks = u64::from(most);
         for number in members(playing) {
-            ticks = ticks.min(self.tracks[number].quiet(number, keys));
+            let track = &self.tracks[number];
+            ticks = ticks.min(track.ticks_before(track.quiet(number, keys)));
         }
         let mut word = led;
         while word != 0 {
@@ -171,7 +175,7 @@ impl Peer {
         }
         let ticks = ticks as u32;
         if ticks > 0 {
-            members(playing).for_each(|number| self.tracks[number].leap(ticks));
+            members(playing).for_each(|number| self.tracks[number].play(ticks));
             self.clock += ticks;
         }
         ticks

@@ -1,7 +1,7 @@
 //! A track of the peer: its walk counted in phases (distance from home), which are free of direction.
 
 use super::{BIAS, COORDINATES, STOPPED, WAITING, WIDTH};
-use crate::track::{self, DRIFT_MOST, THRESHOLDS};
+use crate::track::{self, DRIFT_MOST, RATE_MOST, THRESHOLDS};
 
 #[derive(Clone, Copy, Debug, Default, PartialEq, Eq)]
 pub struct Track {
@@ -23,11 +23,16 @@ pub struct Track {
     /// strictly rising, then zeros
     pub thresholds: [u32; THRESHOLDS],
     pub events: [u8; THRESHOLDS],
+    /// the rate: so many steps in so many ticks
+    pub steps: u16,
+    pub ticks: u16,
+    pub remainder: u16,
 }
 
 impl Track {
     pub fn new(min: u32, max: u32) -> Track {
-        Track { min, max, start: min, end: max, position: min, loops: 1, due: true, ..Track::default() }
+        let rest = Track { loops: 1, due: true, steps: 1, ticks: 1, ..Track::default() };
+        Track { min, max, start: min, end: max, position: min, ..rest }
     }
 
     pub fn home(&self) -> u32 {
@@ -39,7 +44,7 @@ impl Track {
     }
 
     pub fn rewound(self) -> Track {
-        Track { position: self.home(), due: true, passes: 0, ..self }
+        Track { position: self.home(), due: true, passes: 0, remainder: 0, ..self }
     }
 
     /// Whether a turn takes it from the first phase to the last: from home, and "that location is then its far end".
@@ -70,6 +75,8 @@ impl Track {
         !self.repeat && self.passes >= u32::from(self.loops)
     }
 
+    /// Inlined, as `steps_now` is: every call asks it of every track.
+    #[inline]
     pub fn sound(&self, clock: u32) -> bool {
         self.min <= self.start
             && self.start < self.end
@@ -81,6 +88,57 @@ impl Track {
             && self.passes <= clock
             && self.mode <= WAITING
             && self.actions[0] | self.actions[5] | self.actions[10] | self.actions[15] == 0
+            && (self.new_rate() || self.rate_sound())
+    }
+
+    /// Whether its rate is 1 in 1 and nothing remains, as most tracks have it: asked at one go.
+    fn new_rate(&self) -> bool {
+        (self.steps ^ 1) | (self.ticks ^ 1) | self.remainder == 0
+    }
+
+    /// Whether its rate is 1 in 1: all below is asked of others only.
+    pub fn every_tick(&self) -> bool {
+        self.ticks == 1
+    }
+
+    #[cold]
+    fn rate_sound(&self) -> bool {
+        let rate = 1 <= self.steps && self.steps <= self.ticks && i64::from(self.ticks) <= RATE_MOST;
+        rate && self.remainder < self.ticks && (self.mode != STOPPED || self.remainder == 0)
+    }
+
+    /// A tick that it plays: whether it makes a step.
+    #[inline]
+    pub fn steps_now(&mut self) -> bool {
+        if self.every_tick() {
+            return true;
+        }
+        let sum = self.remainder + self.steps;
+        let steps = sum >= self.ticks;
+        self.remainder = if steps { sum - self.ticks } else { sum };
+        steps
+    }
+
+    /// The ticks that it plays before the one in which it makes its next step but so many: after n ticks it has made
+    /// (remainder + n × steps) / ticks.
+    pub fn ticks_before(&self, steps: u64) -> u64 {
+        if self.every_tick() || steps > u64::from(u32::MAX) << 8 {
+            return steps;
+        }
+        ((steps + 1) * u64::from(self.ticks) - u64::from(self.remainder) - 1) / u64::from(self.steps)
+    }
+
+    /// So many ticks at once (1 or more), in none of which it reaches a point or stops.
+    pub fn play(&mut self, ticks: u32) {
+        if self.every_tick() {
+            return self.leap(ticks);
+        }
+        let sum = u64::from(self.remainder) + u64::from(ticks) * u64::from(self.steps);
+        let round = u64::from(self.ticks);
+        self.remainder = (sum % round) as u16;
+        if sum >= round {
+            self.leap((sum / round) as u32);
+        }
     }
 
     /// Whether it follows none, and says so in every field: what most tracks do is asked at one go.
@@ -160,7 +218,7 @@ impl Track {
     }
 
     /// So many steps at once (1 or more), over any number of passes; none of them reaches a point or stops.
-    pub fn leap(&mut self, steps: u32) {
+    fn leap(&mut self, steps: u32) {
         let (span, reached) = (self.span(), self.phase() + steps);
         self.passes += reached / span;
         let phase = (reached - 1) % span;
@@ -196,6 +254,9 @@ impl Track {
             band: self.band.into(),
             thresholds: self.thresholds.map(i64::from),
             events: self.events.map(i64::from),
+            steps: self.steps.into(),
+            ticks: self.ticks.into(),
+            remainder: self.remainder.into(),
         }
     }
 }

@@ -24,8 +24,8 @@ pub enum Kind {
 
 pub const KINDS: [Kind; 6] = [Kind::Valid, Kind::Late, Kind::Hurt, Kind::Words, Kind::Letters, Kind::Bytes];
 
-const WORDS: &str =
-    "track/start/end/loops/repeat/dir/point/drop/action/jump/play/pause/resume/stop/advance/clear//clears/Play";
+const WORDS: &str = "track/start/end/loops/repeat/dir/point/drop/action/jump/play/pause/resume/stop/advance/clear\
+    //clears/Play/rate/master";
 /// Fields that are numbers, small ones and edges, and fields that are none.
 const FIELDS: &str = "0/0/0/1/1/2/3/5/15/16/-1/255/256/65535/1000000/-1000000/4294967295/-4294967295\
     /4294967296/-0/00/01/+1//-/ 1/18446744073709551616/1a";
@@ -39,8 +39,9 @@ pub const FULL_LOG: &[u8] =
 /// A script of about so many lines.
 pub fn script(kind: Kind, seed: u64, lines: i64) -> Vec<u8> {
     let mut rng = Rng(seed);
-    // Without master lines the profile of followers has nothing of its own.
-    let profile = *PROFILES.iter().filter(|&&p| p != Profile::Followers).cycle().nth(seed as usize).expect("a profile");
+    // Without master and rate lines these profiles have nothing of their own.
+    let without = [Profile::Followers, Profile::Rates];
+    let profile = *PROFILES.iter().filter(|p| !without.contains(p)).cycle().nth(seed as usize).expect("a profile");
     let calls = || long(profile, seed, lines, LOG_RECORDS * RECORD);
     match kind {
         Kind::Valid => calls().into_iter().flat_map(bytes_of).collect(),

@@ -26,7 +26,7 @@ use Rattle.board.proofs.points.Keys.{lt-or-ge}
 use Rattle.board.proofs.rules.Broken.{present-bit, half-bit, unbroken-of}
 use Rattle.board.proofs.replay.Cuts.{ticks-on, ticks-off}
 use Rattle.board.specs.Tick.{members, Stage, playingWord, followBit, followWord, bandBit, bandCount}
-use Rattle.board.specs.Steady.{SteadyFor, TurnsBackWithin}
+use Rattle.board.specs.Steady.{SteadyFor, PairLeaves}
 use Rattle.board.specs.Quiet.{Some, QuietFor, masterOf, Fewest, Leapable, NonzeroInfos, leapTracks}
 use Rattle.board.proofs.quiet.Leaps.{leap-tracks-long, leap-tracks-word, leap-tracks-zero}
 use Rattle.board.proofs.quiet.Bands.{leap-bands}
@@ -52,7 +52,7 @@ bands-most present (t ∷ ts) =
     omega (arith, bands-most (present / 2) ts)
 
 -- So a loop with `left` ticks to do goes round at most three times for each record that these ticks write, once for each of them in which a
--- track of a follower's pair leaves its line, and 34 times more, however many they are: sixteen tracks play at most, and sixteen bands are
+-- track of a follower's pair leaves its line or the pair is at an edge, and 34 times more, however many they are: sixteen tracks play at most, and sixteen bands are
 -- held. A turn in which it is left comes behind.
 pub turns-bound : (look : Bool) (left : ℕ) (u : World Board) → length (u .board .tracks) ≡ trackCount
     → turnsLeft look left u ≤ 3 * recordsLeft left u + leavings left u + 34
@@ -233,7 +233,7 @@ module _ (b : Board) (count : ℕ) (log₀ : List ℕ) where
             omega (arith, walked, begins, leavings-over passing k halts steps k 0 (suc (count - taken′)) (omega arith))
 
         -- and less, if a track leaves its line in one of them
-        leavings-fewer : Some (λ i. TurnsBackWithin (suc k) (trackAt ts i) (masterOf ts i)) (led ts)
+        leavings-fewer : Some (λ i. PairLeaves (suc k) (trackAt ts i) (masterOf ts i)) (led ts)
             → leavings (count - taken′) (here ts′ clock′ held′ log′) < leavings (count - taken) (here ts clock held log)
         leavings-fewer s =
             let w = leap-leaves b ts clock held (suc k) mastered s in

@@ -1,4 +1,4 @@
--- The ticks in which a track of a follower's pair leaves its line, counted over the ticks that are taken.
+-- The ticks in which a track of a follower's pair leaves its line or the pair is at an edge, counted over the ticks that are taken.
 use Prim.Native.Nat.{ℕ, zero, suc, _+_, _-_, _≤_, _<_, min}
 use mathlib.Core.Path.{_≡_, refl, sym, ap, _∙_}
 use mathlib.Core.Logic.{_⊎_, inl, inr}
@@ -8,20 +8,21 @@ use mathlib.Core.Option.{Option, none, some}
 use native.Mathlib.Omega.{arith}
 use Rattle.track.specs.declared.Track.{Track}
 use Rattle.track.specs.Rule.{clockEnd}
+use Rattle.track.specs.Follow.{upToZero, lowOf, highOf}
 use Rattle.board.specs.declared.Board.{Board}
-use Rattle.board.specs.Board.{trackAt}
+use Rattle.board.specs.Board.{trackAt, isPresent}
 use Rattle.board.specs.Points.{keysOf, infosOf}
 use Rattle.board.specs.Tick.{members, followWord}
-use Rattle.board.specs.Steady.{goes, turnsBack, TurnsBackWithin}
+use Rattle.board.specs.Steady.{goes, turnsBack, lowHeld, highHeld, atEdge, PairLeaves}
 use Rattle.board.specs.Quiet.{Some, masterOf, leapTracks}
 use Rattle.board.specs.Cut.{passed}
 use Rattle.board.specs.Replay.{World, Each, w-halt, w-step, total}
 use Rattle.board.specs.Call.{Stop, ends, gridstep}
-use Rattle.board.specs.Advance.{oneLeaves, leaving, leavings}
+use Rattle.board.specs.Advance.{pairLeaves, oneLeaves, leaving, leavings}
 use Rattle.board.proofs.replay.Cuts.{passed-on, passed-off}
 use Rattle.board.proofs.tick.Bits.{no-members}
 use Rattle.board.proofs.tick.Steps.{tick-follow-word}
-use Rattle.board.proofs.quiet.Bands.{leap-follow-word}
+use Rattle.board.proofs.quiet.Bands.{leap-follow-word, leapt-follower}
 use Rattle.board.proofs.quiet.Pairs.{Mastered, leap-tracks-at, leap-master-at}
 use Rattle.board.proofs.advance.Advancing.{boardAt, halt-ends}
 
@@ -108,7 +109,7 @@ module _ (at : ℕ → World Board) (r : ℕ) (halts : (j : ℕ) → j < r → h
       let c = ap (λ (i : ℕ). leaving (at i .board)) z in
       omega (arith, leavings-within k (suc j) i n (omega arith) (omega arith) (omega arith), first j (k + n) (omega arith))
 
--- ---- a track that leaves its line in a leap does so on one of the boards that are leapt over
+-- ---- a pair that leaves its line or is at an edge in a leap does so on one of the boards that are leapt over
 
 or-first : (a b : Bool) → a ≡ true → (a || b) ≡ true
 or-first true b e = refl
@@ -122,28 +123,47 @@ module _ (present : ℕ) (ts : List Track) (r : ℕ) where
   abbrev Left : List ℕ → Type 0
   Left fs = (j : ℕ) × (j < r) × (oneLeaves (leapTracks j present ts) fs ≡ true)
 
-  left-one : (fs : List ℕ) → Mastered present ts fs → Some (λ i. TurnsBackWithin r (trackAt ts i) (masterOf ts i)) fs → Left fs
+  -- the follower i and its master do so after the ticks in which they are said to
+  module _ (i : ℕ) (here : isPresent present i ≡ true) (there : isPresent present (trackAt ts i .master) ≡ true)
+      (w : PairLeaves r (trackAt ts i) (masterOf ts i)) where
+    abbrev us : List Track
+    us = leapTracks (w .at) present ts
+
+    t-is : trackAt us i ≡ goes (w .at) (trackAt ts i)
+    t-is = leap-tracks-at (w .at) present ts i here
+
+    m-is : masterOf us i ≡ goes (w .at) (masterOf ts i)
+    m-is = leap-master-at (w .at) present ts i here there
+
+    -- the band held is the same
+    edge-is : atEdge (lowHeld (trackAt us i)) (highHeld (trackAt us i)) (trackAt us i) (masterOf us i)
+        ≡ atEdge (lowHeld (trackAt ts i)) (highHeld (trackAt ts i)) (goes (w .at) (trackAt ts i)) (goes (w .at) (masterOf ts i))
+    edge-is =
+        let f = leapt-follower (w .at) present ts i in
+        λ j. atEdge (lowOf (upToZero (f .thresholds j)) (f .band j)) (highOf (upToZero (f .thresholds j)) (f .band j)) (t-is j) (m-is j)
+
+    pair-left : pairLeaves (trackAt us i) (masterOf us i) ≡ true
+    pair-left = go (w .which)
+      where
+        go : (turnsBack (goes (w .at) (trackAt ts i)) ≡ true) ⊎ (turnsBack (goes (w .at) (masterOf ts i)) ≡ true)
+            ⊎ (atEdge (lowHeld (trackAt ts i)) (highHeld (trackAt ts i)) (goes (w .at) (trackAt ts i)) (goes (w .at) (masterOf ts i)) ≡ true)
+            → pairLeaves (trackAt us i) (masterOf us i) ≡ true
+        go (inl e) = or-first (turnsBack (trackAt us i)) _ (ap turnsBack t-is ∙ e)
+        go (inr (inl e)) = or-second (turnsBack (trackAt us i)) _ (or-first (turnsBack (masterOf us i)) _ (ap turnsBack m-is ∙ e))
+        go (inr (inr e)) = or-second (turnsBack (trackAt us i)) _ (or-second (turnsBack (masterOf us i)) _ (edge-is ∙ e))
+
+  left-one : (fs : List ℕ) → Mastered present ts fs → Some (λ i. PairLeaves r (trackAt ts i) (masterOf ts i)) fs → Left fs
   unfolding Each Some oneLeaves
   left-one [] m s = absurd s
-  left-one (i ∷ fs) m (inl w) = (w .at, w .before, go (w .which))
-    where
-      us : List Track
-      us = leapTracks (w .at) present ts
-
-      go : (turnsBack (goes (w .at) (trackAt ts i)) ≡ true) ⊎ (turnsBack (goes (w .at) (masterOf ts i)) ≡ true)
-          → (turnsBack (trackAt us i) || (turnsBack (masterOf us i) || oneLeaves us fs)) ≡ true
-      go (inl e) = or-first (turnsBack (trackAt us i)) _ (ap turnsBack (leap-tracks-at (w .at) present ts i (m .0 .0)) ∙ e)
-      go (inr e) =
-          or-second (turnsBack (trackAt us i)) _
-          (or-first (turnsBack (masterOf us i)) (oneLeaves us fs) (ap turnsBack (leap-master-at (w .at) present ts i (m .0 .0) (m .0 .1)) ∙ e))
+  left-one (i ∷ fs) m (inl w) = (w .at, w .before, or-first _ _ (pair-left i (m .0 .0) (m .0 .1) w))
   left-one (i ∷ fs) m (inr s) =
       let w = left-one fs (m .1) s in
       let us = leapTracks (w .0) present ts in
-      (w .0, w .1, or-second (turnsBack (trackAt us i)) _ (or-second (turnsBack (masterOf us i)) (oneLeaves us fs) (w .2)))
+      (w .0, w .1, or-second (pairLeaves (trackAt us i) (masterOf us i)) _ (w .2))
 
 -- on a board with these tracks
 pub leap-leaves : (b : Board) (ts : List Track) (clock held r : ℕ) → Mastered (b .present) ts (members (followWord (b .present) ts))
-    → Some (λ i. TurnsBackWithin r (trackAt ts i) (masterOf ts i)) (members (followWord (b .present) ts))
+    → Some (λ i. PairLeaves r (trackAt ts i) (masterOf ts i)) (members (followWord (b .present) ts))
     → (j : ℕ) × (j < r) × (0 < leaving (boardAt b (leapTracks j (b .present) ts) (clock + j) held))
 unfolding leaving
 leap-leaves b ts clock held r m s =

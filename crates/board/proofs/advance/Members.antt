@@ -9,7 +9,8 @@ use lib.ListN.{length, take, drop, set, length-append, length-set}
 use lib.Seq.{take-at, length-take-le, getD-set-other}
 use Rattle.track.specs.declared.Track.{Track}
 use Rattle.track.specs.Rule.{Valid}
-use Rattle.track.specs.Walk.{arrival, step}
+use Rattle.track.specs.Walk.{arrival}
+use Rattle.track.specs.Leap.{moves, played}
 use Rattle.board.specs.declared.Board.{Board}
 use Rattle.board.specs.declared.log.Record.{Record}
 use Rattle.board.specs.Log.{writeAt, recordWidth, logBytes}
@@ -22,7 +23,7 @@ use Rattle.board.specs.Quiet.{CanLeap, Leapable}
 use Rattle.board.proofs.points.Keys.{ascending-head, ascending-rest}
 use Rattle.board.proofs.points.Rows.{ascending-weaken}
 use Rattle.board.proofs.tick.Staging.{length-log, log-append, step-most, reached-most}
-use Rattle.board.proofs.tick.Commands.{tracksRun, recordsRun, run-apart, run-more, run-most}
+use Rattle.board.proofs.tick.Commands.{each-set, tracksRun, recordsRun, run-apart, run-more, run-most}
 use Rattle.board.proofs.log.Words.{length-write}
 use Rattle.board.proofs.tick.Steps.{members-ascend, members-most, steps-more}
 use Rattle.board.proofs.tick.Found.{step-rule, found-rule, found-target}
@@ -35,16 +36,6 @@ take-write xs ys at h =
     let l : length (take at xs ++ ys) ≡ at + length ys = length-append (take at xs) ys ∙ ap (λ (n : ℕ). n + length ys) (length-take-le at xs h) in
     ap (take (at + length ys)) (sym (append-assoc (take at xs) ys (drop (at + length ys) xs)))
     ∙ take-at (take at xs ++ ys) (drop (at + length ys) xs) (at + length ys) l
-
--- tracks of higher numbers are as they were
-pub each-set : (P : Track → Type 0) (ts : List Track) (i : ℕ) (t : Track) (is : List ℕ) → ascendingFrom (suc i) is ≡ true
-    → Each (λ j. P (trackAt ts j)) is → Each (λ j. P (trackAt (set ts i t) j)) is
-unfolding Each
-each-set P ts i t [] a e = tt
-each-set P ts i t (j ∷ js) a e =
-    let l : i < j = ascending-head (suc i) j js a in
-    let r : ascendingFrom (suc i) js ≡ true = ascending-weaken (suc i) (suc j) js (omega arith) (ascending-rest (suc i) j js a) in
-    (subst P (sym (getD-set-other ts i j t noTrack (λ q. omega arith))) (e .0), each-set P ts i t js r (e .1))
 
 no-ones : ones 0 ≡ 0
 unfolding ones onesIn
@@ -118,12 +109,12 @@ module _ (b : Board) (ts : List Track) (clock word : ℕ) (stage reached : List 
 
   -- one member stepped: its records staged, its point noted
   pub stepping-step : (h : 0 < left) (us : List Track) → pointsTest (b .present) us 0 (keysOf (b .points)) (infosOf (b .points)) ≡ true →
-      {u : Track} {d count′ m′ : ℕ} {stage′ reached′ : List ℕ} → d ≡ found → u ≡ step t (waits d) →
+      {u : Track} {d count′ m′ : ℕ} {stage′ reached′ : List ℕ} → d ≡ found → u ≡ played t (waits d) →
       count′ ≡ count + length (stepRecords (clock + 1) i t d) → stage′ ≡ writeAt stage (count * recordWidth) (logBytes (stepRecords (clock + 1) i t d)) →
       m′ ≡ m + length (reachedBy d) → take m′ reached′ ≡ take m reached ++ reachedBy d →
       length reached′ ≡ length reached →
       Stepping b ts clock word stage′ reached′ (set next i u) (cleared rest) (left - 1) count′ m′
-  unfolding stepAll stepMember Each
+  unfolding stepAll stepMember foundBy Each
   stepping-step h us p {u} {d} {count′} {m′} {stage′} {reached′} ed eu ec es em er lr =
       let low = member-left h in
       let rs = stepRecords (clock + 1) i t d in
@@ -138,7 +129,7 @@ module _ (b : Board) (ts : List Track) (clock word : ℕ) (stage reached : List 
         records = s .records ++ rs;
         work =
             (λ j. stepAll (keysOf (b .points)) (infosOf (b .points)) (clock + 1) (members (cleared rest))
-            (staged (set next i ((eu ∙ ap (λ (x : ℕ). step t (waits x)) ed) j)) (s .records ++ stepRecords (clock + 1) i t (ed j)) ((er ∙ ap (λ (x : ℕ). take m reached ++ reachedBy x) ed) j)))
+            (staged (set next i ((eu ∙ ap (λ (x : ℕ). played t (waits x)) ed) j)) (s .records ++ stepRecords (clock + 1) i t (ed j)) ((er ∙ ap (λ (x : ℕ). take m reached ++ reachedBy x) ed) j)))
             ∙ ap (λ (is : List ℕ). stepAll (keysOf (b .points)) (infosOf (b .points)) (clock + 1) is (staged next (s .records) (take m reached))) (sym (low .rest))
             ∙ s .work;
         count-is = ec ∙ (λ j. s .count-is j + length rs) ∙ sym (length-append (s .records) rs);
@@ -149,11 +140,11 @@ module _ (b : Board) (ts : List Track) (clock word : ℕ) (stage reached : List 
         small = low .fits;
         leapable = each-set CanLeap next i u (members (cleared rest)) (ascending-rest 0 i (members (cleared rest)) ascends) (leapable .1);
         rule = subst (λ (x : Track). TracksRule (b .present) (set next i x) (take m′ reached′)) (sym eu)
-            (subst (TracksRule (b .present) (set next i (step t (waits d)))) (sym er)
+            (subst (TracksRule (b .present) (set next i (played t (waits d)))) (sym er)
             (step-rule (b .present) next (take m reached) i (waits d) d (s .rule)
-            (subst InfoRule (sym ed) (found-rule (b .present) us (keysOf (b .points)) (infosOf (b .points)) p (key i (arrival t))))
+            (subst InfoRule (sym ed) (found-rule (b .present) us (keysOf (b .points)) (infosOf (b .points)) p (moves t) (key i (arrival t))))
             (subst (λ (x : ℕ). (commandOf x ≡ 0 → ⊥) → isPresent (b .present) (targetOf x) ≡ true) (sym ed)
-            (found-target (b .present) us (keysOf (b .points)) (infosOf (b .points)) p (key i (arrival t))))));
+            (found-target (b .present) us (keysOf (b .points)) (infosOf (b .points)) p (moves t) (key i (arrival t)))) (leapable .0 .plays)));
         few-records = omega (arith, s .few-records);
         few-reached = omega (arith, s .few-reached);
         next-long = length-set next i u ∙ s .next-long;
@@ -171,11 +162,11 @@ module _ (b : Board) (ts : List Track) (clock word : ℕ) (ew : word ≡ playing
   s : Stepping b ts clock (playingWord (b .present) ts) stage reached next rest left count m
   s = subst (λ (w : ℕ). Stepping b ts clock w stage reached next rest left count m) ew before
 
-  abbrev played : Stage
-  played = playFrom (keysOf (b .points)) (infosOf (b .points)) (clock + 1) (b .present) ts
+  abbrev afterPlay : Stage
+  afterPlay = playFrom (keysOf (b .points)) (infosOf (b .points)) (clock + 1) (b .present) ts
 
   -- records staged so far are part of those of the steps and the commands
-  pub stepping-over : count ≤ length (played .records)
+  pub stepping-over : count ≤ length (afterPlay .records)
   unfolding playFrom
   stepping-over =
       let a = steps-more (keysOf (b .points)) (infosOf (b .points)) (clock + 1) (members rest) (staged next (s .records) (take m reached)) in
@@ -188,14 +179,14 @@ module _ (b : Board) (ts : List Track) (clock word : ℕ) (ew : word ≡ playing
   pub stepping-done : left ≤ 0 → {after : List Track} {total : ℕ} {stage′ : List ℕ} → after ≡ tracksRun (clock + 1) (take m reached) next →
       total ≡ count + length (recordsRun (clock + 1) (take m reached) next) →
       stage′ ≡ writeAt stage (count * recordWidth) (logBytes (recordsRun (clock + 1) (take m reached) next)) →
-      (after ≡ played .tracks) × (total ≡ length (played .records)) × (take (total * recordWidth) stage′ ≡ logBytes (played .records))
+      (after ≡ afterPlay .tracks) × (total ≡ length (afterPlay .records)) × (take (total * recordWidth) stage′ ≡ logBytes (afterPlay .records))
       × (length stage′ ≡ tickMost * recordWidth)
   unfolding playFrom stepAll
   stepping-done h {after} {total} {stage′} ea et es =
       let rs = recordsRun (clock + 1) (take m reached) next in
       let end : staged next (s .records) (take m reached) ≡ stepAll (keysOf (b .points)) (infosOf (b .points)) (clock + 1) (members (playingWord (b .present) ts)) (staged ts [] []) =
       ap (λ (is : List ℕ). stepAll (keysOf (b .points)) (infosOf (b .points)) (clock + 1) is (staged next (s .records) (take m reached))) (sym (none-left rest (s .small) (omega (arith, s .left-is)))) ∙ s .work in
-      let all : staged (tracksRun (clock + 1) (take m reached) next) (s .records ++ rs) (take m reached) ≡ played =
+      let all : staged (tracksRun (clock + 1) (take m reached) next) (s .records ++ rs) (take m reached) ≡ afterPlay =
       sym (run-apart (clock + 1) (take m reached) next (s .records) (take m reached)) ∙ ap (λ (x : Stage). runAll (clock + 1) (x .reached) x) end in
       let width : total * recordWidth ≡ count * recordWidth + length (logBytes rs) = omega (arith, length-log rs) in (
         ea ∙ ap (λ (x : Stage). x .tracks) all,

@@ -11,9 +11,10 @@ use lib.ListN.{length, take, set, length-set}
 use lib.Seq.{getD-set-same, getD-set-other, set-set, set-comm}
 use borrow.Author.Tests.{eq-eqb, eqb-true}
 use Rattle.track.specs.declared.Track.{Track}
-use Rattle.track.specs.Rule.{PLAYING, Valid, moved}
+use Rattle.track.specs.Rule.{PLAYING, Valid, moved, withRemainder}
 use Rattle.track.specs.Walk.{step, stops, visited}
-use Rattle.track.specs.Leap.{leap}
+use Rattle.track.specs.Stride.{stride}
+use Rattle.track.specs.Leap.{moves, remainderLeft, played, leap}
 use Rattle.track.proofs.Tests.{cond-cases}
 use Rattle.board.specs.declared.Board.{Board}
 use Rattle.board.specs.declared.tick.Stepped.{Stepped}
@@ -27,10 +28,10 @@ use Rattle.board.specs.Quiet.{CanLeap, Leapable, leapInto, leapTracks}
 use Rattle.board.proofs.points.Keys.{ascending-head, ascending-rest}
 use Rattle.board.proofs.points.Rows.{ascending-weaken}
 use Rattle.board.proofs.tick.Bits.{Lowest, cleared}
-use Rattle.board.proofs.tick.Commands.{tracksRun, recordsRun}
+use Rattle.board.proofs.tick.Commands.{each-set, tracksRun, recordsRun}
 use Rattle.board.proofs.quiet.Leaps.{leap-into, leap-tracks-long, leap-tracks-word, leap-tracks-zero}
-use Rattle.board.proofs.advance.Members.{Stepping, stepping-start, stepping-step, stepping-over, stepping-done, member-left, each-set, none-left}
-use Rattle.board.proofs.quiet.Players.{EachPlaying, bit-plays, each-member, word-small}
+use Rattle.board.proofs.advance.Members.{Stepping, stepping-start, stepping-step, stepping-over, stepping-done, member-left, none-left}
+use Rattle.board.proofs.quiet.Players.{word-small}
 use Rattle.board.proofs.tick.Staging.{write-none}
 use Rattle.board.proofs.tick.Steps.{members-ascend}
 use Rattle.board.proofs.follow.Following.{follow-adds}
@@ -67,9 +68,9 @@ module _ (k i : ℕ) where
       into-from ts js (set us j (leap (trackAt (set ts i u) j) k)) u (ascending-weaken (suc i) (suc j) js (omega arith) (ascending-rest (suc i) j js a))
       ∙ ap (λ (t : Track). leapInto k ts js (set us j (leap t k))) (getD-set-other ts i j u noTrack (λ q. omega arith))
 
--- ---- a step's fields stored in their place, one after the other
+-- ---- what a tick changes of a track, stored in its place, one field after the other
 
--- the four stores
+-- the five stores
 abbrev inMode : List Track → ℕ → ℕ → List Track
 inMode ts i v = let t = trackAt ts i in set ts i (moved t v (t .position .0) (t .passes .0) (t .due))
 
@@ -82,29 +83,43 @@ inPasses ts i v = let t = trackAt ts i in set ts i (moved t (t .mode) (t .positi
 abbrev inDue : List Track → ℕ → ℕ → List Track
 inDue ts i v = let t = trackAt ts i in set ts i (moved t (t .mode) (t .position .0) (t .passes .0) v)
 
+abbrev inRemainder : List Track → ℕ → ℕ → List Track
+inRemainder ts i v = set ts i (withRemainder (trackAt ts i) v)
+
 abbrev pub stored : List Track → ℕ → Stepped → List Track
-stored ts i r = inDue (inPasses (inPosition (inMode ts i (r .mode)) i (r .position .0)) i (r .passes .0)) i (r .due)
+stored ts i r =
+    inRemainder (inDue (inPasses (inPosition (inMode ts i (r .mode)) i (r .position .0)) i (r .passes .0)) i (r .due)) i (r .remainder)
+
+-- the track that they leave
+abbrev storedTrack : Track → Stepped → Track
+storedTrack t r = withRemainder (moved t (r .mode) (r .position .0) (r .passes .0) (r .due)) (r .remainder)
 
 -- a track put in its place and changed there
 set-again : (f : Track → Track) (ts : List Track) (i : ℕ) (u : Track) → i < length ts → set (set ts i u) i (f (trackAt (set ts i u) i)) ≡ set ts i (f u)
 set-again f ts i u h = set-set ts i u (f (trackAt (set ts i u) i)) ∙ ap (λ (t : Track). set ts i (f t)) (getD-set-same ts i u noTrack h)
 
-stored-is : (ts : List Track) (i : ℕ) (r : Stepped) → i < length ts → stored ts i r ≡ set ts i (moved (trackAt ts i) (r .mode) (r .position .0) (r .passes .0) (r .due))
+stored-is : (ts : List Track) (i : ℕ) (r : Stepped) → i < length ts → stored ts i r ≡ set ts i (storedTrack (trackAt ts i) r)
 stored-is ts i r h =
     let t = trackAt ts i in
     let a = set-again (λ u. moved u (u .mode) (r .position .0) (u .passes .0) (u .due)) ts i (moved t (r .mode) (t .position .0) (t .passes .0) (t .due)) h in
     let b = set-again (λ u. moved u (u .mode) (u .position .0) (r .passes .0) (u .due)) ts i (moved t (r .mode) (r .position .0) (t .passes .0) (t .due)) h in
     let c = set-again (λ u. moved u (u .mode) (u .position .0) (u .passes .0) (r .due)) ts i (moved t (r .mode) (r .position .0) (r .passes .0) (t .due)) h in
-    ap (λ (us : List Track). inDue (inPasses us i (r .passes .0)) i (r .due)) a ∙ ap (λ (us : List Track). inDue us i (r .due)) b ∙ c
+    let d = set-again (λ u. withRemainder u (r .remainder)) ts i (moved t (r .mode) (r .position .0) (r .passes .0) (r .due)) h in
+    ap (λ (us : List Track). inRemainder (inDue (inPasses us i (r .passes .0)) i (r .due)) i (r .remainder)) a
+    ∙ ap (λ (us : List Track). inRemainder (inDue us i (r .due)) i (r .remainder)) b
+    ∙ ap (λ (us : List Track). inRemainder us i (r .remainder)) c
+    ∙ d
 
--- a step changes no other field, nor does a leap
-step-moves : (t x : Track) (k : ℕ) (w : Bool) → x ≡ leap t k → moved t (step x w .mode) (step x w .position .0) (step x w .passes .0) (step x w .due) ≡ step x w
-unfolding step visited leap
+-- a tick changes no other field, nor does a leap
+step-moves : (t x : Track) (k : ℕ) (w : Bool) → x ≡ leap t k → storedTrack t (stepped (played x w) 0) ≡ played x w
+unfolding played step visited leap stride
 step-moves t x k w e =
-    subst (λ (x : Track). moved t (step x w .mode) (step x w .position .0) (step x w .passes .0) (step x w .due) ≡ step x w) (sym e)
-    (cond-cases (λ (u : Track). moved t (u .mode) (u .position .0) (u .passes .0) (u .due) ≡ u) (stops (leap t k)) (λ q. refl) (λ q. refl))
+    subst (λ (x : Track). storedTrack t (stepped (played x w) 0) ≡ played x w) (sym e)
+    (cond-cases (λ (u : Track). storedTrack t (stepped u 0) ≡ u) (moves (leap t k))
+    (λ q. cond-cases (λ (u : Track). storedTrack t (stepped u 0) ≡ u) (stops (withRemainder (leap t k) (remainderLeft (leap t k)))) (λ q. refl) (λ q. refl))
+    (λ q. refl))
 
--- ---- what a step that needs no more keeps
+-- ---- what a tick of a track that needs no more keeps
 
 -- the playing word, where a track is replaced by one of its mode
 word-set : (present : ℕ) (ts : List Track) (i : ℕ) (u : Track) → u .mode ≡ trackAt ts i .mode → playingWord present (set ts i u) ≡ playingWord present ts
@@ -181,25 +196,10 @@ module _ (present skipped : ℕ) (before : List Track) (l : length before ≡ tr
 
 -- ---- a turn, as far as it has gone
 
--- a playing track that can be leapt
-pub record Ready (t : Track) : Type 0 where
-  pub leapable : CanLeap t
-  pub plays : t .mode ≡ PLAYING
-
-all-play : (n present : ℕ) (ts : List Track) → EachPlaying (λ n t. t .mode ≡ PLAYING) n present ts
-unfolding EachPlaying
-all-play n present [] = tt
-all-play n present (t ∷ ts) = (λ h. bit-plays (present % 2) t h .0, all-play (suc n) (present / 2) ts)
-
-each-ready : (ts : List Track) (is : List ℕ) → Leapable ts is → Each (λ i. trackAt ts i .mode ≡ PLAYING) is → Each (λ i. Ready (trackAt ts i)) is
-unfolding Each
-each-ready ts [] a p = tt
-each-ready ts (i ∷ is) a p = (record { leapable = a .0; plays = p .0 }, each-ready ts is (a .1) (p .1))
-
 -- `skipped` ticks leapt and one walked, of the members of `word` but for those of `rest`; so far `more` says whether a step needs more
 pub record Turning (b : Board) (ts : List Track) (clock word skipped : ℕ) (stage reached : List ℕ) (next : List Track) (rest left count m : ℕ) (more : Bool) : Type 0 where
   pub steps : Stepping b (leapTracks skipped (b .present) ts) clock word stage reached (leapInto skipped next (members rest) next) rest left count m
-  pub ready : Each (λ i. Ready (trackAt next i)) (members rest)
+  pub ready : Leapable next (members rest)
   pub long : length next ≡ trackCount
   pub same-word : more ≡ false → word ≡ playingWord (b .present) next
   pub no-command : more ≡ false → Each (λ d. commandOf d ≡ 0) (take m reached)
@@ -217,9 +217,7 @@ turning-start b ts clock word skipped stage reached ew l leapable leapable′ va
           (sym (leap-into skipped (b .present) ts l) ∙ ap (λ (v : ℕ). leapInto skipped ts (members v) ts) (sym ew))
           (stepping-start b after clock word stage reached (subst (λ (v : ℕ). v < 65536) (sym ew) (word-small (b .present) ts l))
           (subst (λ (v : ℕ). Leapable after (members v)) w leapable′) valid (leap-tracks-long skipped (b .present) ts ∙ l) s r);
-      ready = each-ready ts (members word) leapable
-          (subst (λ (v : ℕ). Each (λ i. trackAt ts i .mode ≡ PLAYING) (members v)) (sym ew)
-          (each-member (λ n t. t .mode ≡ PLAYING) (b .present) ts l (all-play 0 (b .present) ts)));
+      ready = leapable;
       long = l;
       same-word = λ e. ew;
       no-command = λ e. tt;
@@ -240,16 +238,13 @@ module _ (b : Board) (ts : List Track) (clock word skipped : ℕ) (stage reached
         ascending-rest 0 i (members (cleared rest))
         (subst (λ (is : List ℕ). ascendingFrom 0 is ≡ true) (turning-member .rest) (members-ascend trackCount 0 rest))
 
-    readies : Each (λ j. Ready (trackAt next j)) (i ∷ members (cleared rest))
-    readies = subst (Each (λ j. Ready (trackAt next j))) (turning-member .rest) (s .ready)
-
-    first : Ready (trackAt next i)
-    unfolding Each
-    first = readies .0
+    readies : Leapable next (i ∷ members (cleared rest))
+    readies = subst (Leapable next) (turning-member .rest) (s .ready)
 
     -- it can be leapt
     pub turning-leapable : CanLeap (trackAt next i)
-    turning-leapable = first .leapable
+    unfolding Each
+    turning-leapable = readies .0
 
     -- its leap is the one that stands in its place
     ahead : leapInto skipped next (members rest) next ≡ leapInto skipped next (members (cleared rest)) (set next i (leap (trackAt next i) skipped))
@@ -278,7 +273,7 @@ module _ (b : Board) (ts : List Track) (clock word skipped : ℕ) (stage reached
     -- one member leapt and stepped: its records staged, its point noted
     turning-step : (us : List Track) → pointsTest (b .present) us 0 (keysOf (b .points)) (infosOf (b .points)) ≡ true →
         {x u : Track} {d count′ m′ : ℕ} {stage′ reached′ : List ℕ} {more′ : Bool} → x ≡ leap (trackAt next i) skipped →
-        d ≡ foundBy (keysOf (b .points)) (infosOf (b .points)) i x → u ≡ step x (waits d) →
+        d ≡ foundBy (keysOf (b .points)) (infosOf (b .points)) i x → u ≡ played x (waits d) →
         count′ ≡ count + length (stepRecords (clock + 1) i x d) → stage′ ≡ writeAt stage (count * recordWidth) (logBytes (stepRecords (clock + 1) i x d)) →
         m′ ≡ m + length (reachedBy d) → take m′ reached′ ≡ take m reached ++ reachedBy d → length reached′ ≡ length reached →
         more′ ≡ (more || needsMore d (u .mode)) →
@@ -287,14 +282,14 @@ module _ (b : Board) (ts : List Track) (clock word skipped : ℕ) (stage reached
     turning-step us p {x} {u} {d} {count′} {m′} {stage′} {reached′} {more′} ex ed eu ec es em er lr et =
         record {
           steps = subst (λ (ns : List Track). Stepping b (leapTracks skipped (b .present) ts) clock word stage′ reached′ ns (cleared rest) (left - 1) count′ m′) (put u)
-              (subst (λ (t : Track). d ≡ foundBy (keysOf (b .points)) (infosOf (b .points)) i t → u ≡ step t (waits d) → count′ ≡ count + length (stepRecords (clock + 1) i t d) → stage′ ≡ writeAt stage (count * recordWidth) (logBytes (stepRecords (clock + 1) i t d)) → Stepping b (leapTracks skipped (b .present) ts) clock word stage′ reached′ (set (leapInto skipped next (members rest) next) i u) (cleared rest) (left - 1) count′ m′)
+              (subst (λ (t : Track). d ≡ foundBy (keysOf (b .points)) (infosOf (b .points)) i t → u ≡ played t (waits d) → count′ ≡ count + length (stepRecords (clock + 1) i t d) → stage′ ≡ writeAt stage (count * recordWidth) (logBytes (stepRecords (clock + 1) i t d)) → Stepping b (leapTracks skipped (b .present) ts) clock word stage′ reached′ (set (leapInto skipped next (members rest) next) i u) (cleared rest) (left - 1) count′ m′)
               (its-leap ∙ sym ex)
               (λ ed eu ec es. stepping-step _ _ _ _ _ _ _ _ _ _ _ (s .steps) h us p ed eu ec es em er lr) ed eu ec es);
-          ready = each-set Ready next i u (members (cleared rest)) above (readies .1);
+          ready = each-set CanLeap next i u (members (cleared rest)) above (readies .1);
           long = length-set next i u ∙ s .long;
           same-word = λ e.
               let n = needs-more-not more d (u .mode) (sym et ∙ e) in
-              s .same-word (n .0) ∙ sym (word-set (b .present) next i u (n .2 ∙ sym (first .plays)));
+              s .same-word (n .0) ∙ sym (word-set (b .present) next i u (n .2 ∙ sym (turning-leapable .plays)));
           no-command = λ e.
               let n = needs-more-not more d (u .mode) (sym et ∙ e) in
               subst (Each (λ d. commandOf d ≡ 0)) (sym er) (each-more (take m reached) d (n .1) (s .no-command (n .0)));
@@ -303,7 +298,7 @@ module _ (b : Board) (ts : List Track) (clock word skipped : ℕ) (stage reached
     -- the same, where the step's fields are stored one after the other
     pub turning-store : (us : List Track) → pointsTest (b .present) us 0 (keysOf (b .points)) (infosOf (b .points)) ≡ true →
         {x : Track} {r : Stepped} {d m′ : ℕ} {stage′ reached′ : List ℕ} {more′ : Bool} → x ≡ leap (trackAt next i) skipped →
-        d ≡ foundBy (keysOf (b .points)) (infosOf (b .points)) i x → r ≡ stepped (step x (waits d)) (count + length (stepRecords (clock + 1) i x d)) →
+        d ≡ foundBy (keysOf (b .points)) (infosOf (b .points)) i x → r ≡ stepped (played x (waits d)) (count + length (stepRecords (clock + 1) i x d)) →
         stage′ ≡ writeAt stage (count * recordWidth) (logBytes (stepRecords (clock + 1) i x d)) →
         m′ ≡ m + length (reachedBy d) → take m′ reached′ ≡ take m reached ++ reachedBy d → length reached′ ≡ length reached →
         more′ ≡ (more || needsMore d (r .mode)) →
@@ -312,7 +307,7 @@ module _ (b : Board) (ts : List Track) (clock word skipped : ℕ) (stage reached
         subst (λ (ns : List Track). Turning b ts clock word skipped stage′ reached′ ns (cleared rest) (left - 1) (r .count) m′ more′)
         (sym (stored-is next i r (omega (arith, s .long, turning-member .inside))))
         (turning-step us p ex ed
-        (ap (λ (r : Stepped). moved (trackAt next i) (r .mode) (r .position .0) (r .passes .0) (r .due)) e ∙ step-moves (trackAt next i) x skipped (waits d) ex)
+        (ap (storedTrack (trackAt next i)) e ∙ step-moves (trackAt next i) x skipped (waits d) ex)
         (ap (λ (r : Stepped). r .count) e) es em er lr et)
 
 -- ---- the ways out
@@ -337,11 +332,11 @@ module _ (b : Board) (ts : List Track) (clock word skipped : ℕ) (ew : word ≡
   pub turning-over : count ≤ length (tickFrom (keysOf (b .points)) (infosOf (b .points)) (clock + 1) (b .present) leapt .records)
   unfolding tickFrom
   turning-over =
-      let played = playFrom (keysOf (b .points)) (infosOf (b .points)) (clock + 1) (b .present) leapt in
+      let all = playFrom (keysOf (b .points)) (infosOf (b .points)) (clock + 1) (b .present) leapt in
       omega (
         arith,
         stepping-over b leapt clock word same stage reached _ rest left count m (s .steps),
-        follow-adds (clock + 1) (members (followWord (b .present) leapt)) played,
+        follow-adds (clock + 1) (members (followWord (b .present) leapt)) all,
       )
 
   module _ (h : left ≤ 0) where

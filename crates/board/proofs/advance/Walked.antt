@@ -1,5 +1,5 @@
 -- A tick that is not quiet: no more tracks begin to play and bands are entered than it writes records, and if it writes none, fewer play
--- or fewer bands are held after it, or a track of a follower's pair has left its line by then.
+-- or fewer bands are held after it, or a track of a follower's pair has left its line or the pair has been at an edge by then.
 use Prim.Native.Nat.{ℕ, zero, suc, _+_, _/_, _%_, _≤_, _<_}
 use mathlib.Core.Path.{_≡_, refl, sym, ap, _∙_}
 use mathlib.Core.Logic.{_⊎_, inl, inr, ⊎-elim}
@@ -10,16 +10,19 @@ use lib.Dec.{eqb}
 use lib.ListN.{length, set, length-append}
 use lib.Seq.{getD-at, set-at, append-snoc}
 use Rattle.track.specs.declared.Track.{Track}
-use Rattle.track.specs.Rule.{WAITING, stopped}
-use Rattle.track.specs.Walk.{stops, visited, step}
+use Rattle.track.specs.Rule.{WAITING, stopped, withRemainder}
+use Rattle.track.specs.Walk.{arrival, stops, visited, step}
+use Rattle.track.specs.Leap.{moves, remainderLeft, played}
+use Rattle.track.proofs.Tests.{cond-cases, both}
+use Rattle.track.proofs.Leaps.{remainder-stops}
 use Rattle.board.specs.declared.log.Record.{Record}
 use Rattle.board.specs.Board.{noTrack, trackAt}
 use Rattle.board.specs.Tick.{keep, members}
 use Rattle.board.specs.Tick.{pointRecords, playBit, playingWord, Stage, staged, foundBy, stepRecords, reachedBy, stepMember, stepAll, obeyed, runCommand, runAll, playFrom, followWord, bandCount, tickFrom}
-use Rattle.board.specs.Points.{waits, targetOf, trackCount}
+use Rattle.board.specs.Points.{key, infoAt, waits, targetOf, trackCount}
 use Rattle.board.specs.Replay.{Each}
-use Rattle.board.specs.Steady.{TurnsBackWithin}
-use Rattle.board.specs.Quiet.{Some, NonzeroInfos, masterOf, Fewest, Leapable, whereSet, leapTracks}
+use Rattle.board.specs.Steady.{PairLeaves}
+use Rattle.board.specs.Quiet.{Some, NonzeroInfos, stopsNext, masterOf, Fewest, Leapable, whereSet, leapTracks}
 use Rattle.board.proofs.points.Keys.{lt-or-ge}
 use Rattle.board.proofs.tick.PlayingLaws.{bit-small}
 use Rattle.board.proofs.quiet.Players.{SomePlaying, players, members-playing, longer, some-playing}
@@ -75,31 +78,46 @@ module _ (d : ℕ) (t : Track) (w : Bool) where
   unfolding step
   stop-bit e h = rw e h
 
--- a track that its next step stops
+-- nor does a tick, and one that stops a playing track ends its playing
+module _ (d : ℕ) (t : Track) (w : Bool) where
+  abbrev on : Track
+  on = withRemainder t (remainderLeft t)
+
+  played-bit : playBit d (played t w) ≤ playBit d t
+  unfolding played
+  played-bit = cond-cases (λ (u : Track). playBit d u ≤ playBit d t) (moves t) (λ _. step-bit d on w) (λ _. omega arith)
+
+  played-stop : stopsNext t ≡ true → 0 < playBit d t → playBit d (played t w) < playBit d t
+  unfolding stopsNext played
+  played-stop e h =
+      let b = both (moves t) (stops t) e in
+      rw (b .0) (stop-bit d on w (remainder-stops t (remainderLeft t) ∙ b .1) h)
+
+-- a track that its next tick stops
 abbrev Stops : ℕ → Track → Type 0
-Stops n t = stops t ≡ true
+Stops n t = stopsNext t ≡ true
 
 module _ (ks ds : List ℕ) where
-  -- the playing tracks one step on, the first having the number n
+  -- the playing tracks one tick on, the first having the number n
   unfoldable stepTracks : ℕ → ℕ → List Track → List Track
   stepTracks n present [] = []
   stepTracks n present (t ∷ ts) =
-      whereSet (playBit (present % 2) t) (step t (waits (foundBy ks ds n t))) t ∷ stepTracks (suc n) (present / 2) ts
+      whereSet (playBit (present % 2) t) (played t (waits (foundBy ks ds n t))) t ∷ stepTracks (suc n) (present / 2) ts
 
-  head-bit : (n d : ℕ) (t : Track) → playBit d (whereSet (playBit d t) (step t (waits (foundBy ks ds n t))) t) ≤ playBit d t
+  head-bit : (n d : ℕ) (t : Track) → playBit d (whereSet (playBit d t) (played t (waits (foundBy ks ds n t))) t) ≤ playBit d t
   head-bit n d t = go (playBit d t)
     where
-      go : (m : ℕ) → playBit d (whereSet m (step t (waits (foundBy ks ds n t))) t) ≤ playBit d t
+      go : (m : ℕ) → playBit d (whereSet m (played t (waits (foundBy ks ds n t))) t) ≤ playBit d t
       go zero = omega arith
-      go (suc m) = step-bit d t (waits (foundBy ks ds n t))
+      go (suc m) = played-bit d t (waits (foundBy ks ds n t))
 
-  head-stop : (n d : ℕ) (t : Track) → 0 < playBit d t → stops t ≡ true
-      → playBit d (whereSet (playBit d t) (step t (waits (foundBy ks ds n t))) t) < playBit d t
+  head-stop : (n d : ℕ) (t : Track) → 0 < playBit d t → stopsNext t ≡ true
+      → playBit d (whereSet (playBit d t) (played t (waits (foundBy ks ds n t))) t) < playBit d t
   head-stop n d t h e = go (playBit d t) h
     where
-      go : (m : ℕ) → 0 < m → playBit d (whereSet m (step t (waits (foundBy ks ds n t))) t) < playBit d t
+      go : (m : ℕ) → 0 < m → playBit d (whereSet m (played t (waits (foundBy ks ds n t))) t) < playBit d t
       go zero p = absurd (omega arith)
-      go (suc m) p = stop-bit d t (waits (foundBy ks ds n t)) e h
+      go (suc m) p = played-stop d t (waits (foundBy ks ds n t)) e h
 
   -- no more tracks play after the steps
   no-more : (n present : ℕ) (ts : List Track) → playCount present (stepTracks n present ts) ≤ playCount present ts
@@ -123,7 +141,7 @@ module _ (ks ds : List ℕ) where
       let b = fewer (suc n) (present / 2) ts s in
       omega arith
 
-  -- ---- the members of the playing word stepped are the playing tracks one step on
+  -- ---- the members of the playing word stepped are the playing tracks one tick on
 
   module _ (clock : ℕ) where
     abbrev after : List ℕ → List Track → List Record → List ℕ → List Track
@@ -142,13 +160,13 @@ module _ (ks ds : List ℕ) where
           rw e
           (ap
           (λ (x : Track).
-          after (players (suc n) (present / 2) ts) (set (pre ++ t ∷ ts) n (step x (waits (foundBy ks ds n x))))
+          after (players (suc n) (present / 2) ts) (set (pre ++ t ∷ ts) n (played x (waits (foundBy ks ds n x))))
           (rs ++ stepRecords clock n x (foundBy ks ds n x)) (qs ++ reachedBy (foundBy ks ds n x)))
           r
           ∙ ap
           (λ (us : List Track). after (players (suc n) (present / 2) ts) us (rs ++ stepRecords clock n t f) (qs ++ reachedBy f))
-          (set-at pre t ts (step t (waits f)) n l)
-          ∙ ih (step t (waits f)) (rs ++ stepRecords clock n t f) (qs ++ reachedBy f))
+          (set-at pre t ts (played t (waits f)) n l)
+          ∙ ih (played t (waits f)) (rs ++ stepRecords clock n t f) (qs ++ reachedBy f))
 
     stepped-list : (n present : ℕ) (pre ts : List Track) → length pre ≡ n → (rs : List Record) (qs : List ℕ)
         → after (players n present ts) (pre ++ ts) rs qs ≡ pre ++ stepTracks n present ts
@@ -164,13 +182,20 @@ module _ (ks ds : List ℕ) where
 
     -- ---- each point reached writes a record
 
-    one-reached : (i : ℕ) (t : Track) (d : ℕ) → length (reachedBy d) ≤ length (stepRecords clock i t d)
-    unfolding stepRecords pointRecords
-    one-reached i t d = go _ _ (eqb d 0)
+    one-reached : (i : ℕ) (t : Track) → length (reachedBy (foundBy ks ds i t)) ≤ length (stepRecords clock i t (foundBy ks ds i t))
+    unfolding stepRecords pointRecords foundBy
+    one-reached i t = by (moves t) refl
       where
+        d : ℕ
+        d = infoAt (key i (arrival t)) ks ds
+
         go : (r : Record) (rs : List Record) (b : Bool) → length (cond b [] (d ∷ [])) ≤ length (cond b [] (r ∷ []) ++ rs)
         go r rs true = omega arith
         go r rs false = omega arith
+
+        by : (b : Bool) → moves t ≡ b → length (reachedBy (foundBy ks ds i t)) ≤ length (stepRecords clock i t (foundBy ks ds i t))
+        by true e = rw e (go _ _ (eqb d 0))
+        by false e = rw e (omega arith)
 
     all-reached : (is : List ℕ) (s : Stage) → length (s .reached) ≤ length (s .records)
         → length (stepAll ks ds clock is s .reached) ≤ length (stepAll ks ds clock is s .records)
@@ -181,7 +206,7 @@ module _ (ks ds : List ℕ) where
         let d = foundBy ks ds i t in
         let a = length-append (s .reached) (reachedBy d) in
         let b = length-append (s .records) (stepRecords clock i t d) in
-        let c = one-reached i t d in
+        let c = one-reached i t in
         all-reached is (stepMember ks ds clock i s) (omega arith)
 
 -- ---- commands
@@ -201,8 +226,8 @@ module _ (ks ds : List ℕ) (clock present : ℕ) (ts : List Track) (l : length 
   abbrev stepped : Stage
   stepped = stepAll ks ds clock (members (playingWord present ts)) (staged ts [] [])
 
-  abbrev played : Stage
-  played = playFrom ks ds clock present ts
+  abbrev afterPlay : Stage
+  afterPlay = playFrom ks ds clock present ts
 
   abbrev tick : Stage
   tick = tickFrom ks ds clock present ts
@@ -214,7 +239,7 @@ module _ (ks ds : List ℕ) (clock present : ℕ) (ts : List Track) (l : length 
   stepped-reached : length (stepped .reached) ≤ length (stepped .records)
   stepped-reached = all-reached ks ds clock (members (playingWord present ts)) (staged ts [] []) (omega arith)
 
-  count-starts : playCount present (played .tracks) ≤ playCount present ts + length (played .records)
+  count-starts : playCount present (afterPlay .tracks) ≤ playCount present ts + length (afterPlay .records)
   unfolding playFrom
   count-starts =
       let a = run-count clock present (stepped .reached) stepped in
@@ -224,7 +249,7 @@ module _ (ks ds : List ℕ) (clock present : ℕ) (ts : List Track) (l : length 
       let e = run-more clock (stepped .reached) stepped in
       omega arith
 
-  count-fewer : length (played .records) ≤ 0 → SomePlaying Stops 0 present ts → playCount present (played .tracks) < playCount present ts
+  count-fewer : length (afterPlay .records) ≤ 0 → SomePlaying Stops 0 present ts → playCount present (afterPlay .tracks) < playCount present ts
   unfolding playFrom
   count-fewer h s =
       let a = run-count clock present (stepped .reached) stepped in
@@ -242,23 +267,23 @@ module _ (ks ds : List ℕ) (clock present : ℕ) (ts : List Track) (l : length 
   before = members-playCount present ts l
 
   -- the third part changes no mode
-  behind : length (plays (tick .tracks)) ≡ playCount present (played .tracks)
+  behind : length (plays (tick .tracks)) ≡ playCount present (afterPlay .tracks)
   unfolding tickFrom
   behind =
-      ap (λ (w : ℕ). length (members w)) (follow-playing clock present (members (followWord present ts)) played)
-      ∙ members-playCount present (played .tracks) (play-long ks ds clock present ts ∙ l)
+      ap (λ (w : ℕ). length (members w)) (follow-playing clock present (members (followWord present ts)) afterPlay)
+      ∙ members-playCount present (afterPlay .tracks) (play-long ks ds clock present ts ∙ l)
 
   -- the bands judged, from what the steps and the commands leave
   abbrev judging : Stage
-  judging = followedFrom clock (members (followWord present ts)) (played .tracks)
+  judging = followedFrom clock (members (followWord present ts)) (afterPlay .tracks)
 
-  records-are : length (tick .records) ≡ length (played .records) + length (judging .records)
-  records-are = ap (λ (s : Stage). length (s .records)) (tick-apart ks ds clock present ts) ∙ length-append (played .records) (judging .records)
+  records-are : length (tick .records) ≡ length (afterPlay .records) + length (judging .records)
+  records-are = ap (λ (s : Stage). length (s .records)) (tick-apart ks ds clock present ts) ∙ length-append (afterPlay .records) (judging .records)
 
   bands-are : bandCount present (tick .tracks) ≤ bandCount present ts + length (judging .records)
   bands-are =
       let e = ap (λ (s : Stage). bandCount present (s .tracks)) (tick-apart ks ds clock present ts) in
-      omega (arith, play-bands ks ds clock present ts, follow-bands clock present (members (followWord present ts)) (played .tracks))
+      omega (arith, play-bands ks ds clock present ts, follow-bands clock present (members (followWord present ts)) (afterPlay .tracks))
 
   -- no more tracks begin to play and bands are entered than the tick writes records
   pub tick-starts : length (plays (tick .tracks)) + bandCount present (tick .tracks) ≤ length (plays ts) + bandCount present ts + length (tick .records)
@@ -266,14 +291,14 @@ module _ (ks ds : List ℕ) (clock present : ℕ) (ts : List Track) (l : length 
 
   module _ (h : length (tick .records) ≤ 0) where
     -- a tick that writes no record, and in which a playing track stops, leaves fewer playing
-    pub tick-fewer : Some (λ i. stops (trackAt ts i) ≡ true) (plays ts)
+    pub tick-fewer : Some (λ i. stopsNext (trackAt ts i) ≡ true) (plays ts)
         → length (plays (tick .tracks)) + bandCount present (tick .tracks) < length (plays ts) + bandCount present ts
     tick-fewer s =
         let f = count-fewer (omega (arith, records-are)) (some-playing Stops present ts l s) in
         omega (arith, before, behind, bands-are, records-are)
 
     -- one that writes no record, and in which a band changes, leaves fewer held
-    pub tick-lower : (Each (Still (played .tracks)) (members (followWord present ts)) → ⊥)
+    pub tick-lower : (Each (Still (afterPlay .tracks)) (members (followWord present ts)) → ⊥)
         → length (plays (tick .tracks)) + bandCount present (tick .tracks) < length (plays ts) + bandCount present ts
     tick-lower n = omega (arith, before, behind, count-starts, records-are, tick-bands-fewer ks ds clock present ts h n)
 
@@ -297,7 +322,7 @@ module _ (ks ds : List ℕ) (clock present : ℕ) (ts : List Track) (l : length 
   -- it writes a record, or leaves fewer playing or fewer bands held, or a track of a follower's pair has left its line by then
   pub walked-tick : (a : ℕ) → Fewest ks ts (members (playingWord present ts)) (members (followWord present ts)) a r → r < a
       → (0 < length (next .records)) ⊎ ((busy (next .tracks) < busy ts)
-      ⊎ Some (λ i. TurnsBackWithin (suc r) (trackAt ts i) (masterOf ts i)) (members (followWord present ts)))
+      ⊎ Some (λ i. PairLeaves (suc r) (trackAt ts i) (masterOf ts i)) (members (followWord present ts)))
   walked-tick a f p =
       ⊎-elim (λ w. inl w)
       (λ e. ⊎-elim (λ (w : 0 < length (next .records)). inl w) (λ (w : length (next .records) ≤ 0). inr (quiet w e)) (lt-or-ge 0 (length (next .records))))
@@ -307,10 +332,10 @@ module _ (ks ds : List ℕ) (clock present : ℕ) (ts : List Track) (l : length 
       lu = leap-tracks-long r present ts ∙ l
 
       quiet : length (next .records) ≤ 0
-          → Some (λ i. stops (trackAt us i) ≡ true) (members (playingWord present ts))
+          → Some (λ i. stopsNext (trackAt us i) ≡ true) (members (playingWord present ts))
           ⊎ ((Each (Still (playFrom ks ds clock present us .tracks)) (members (followWord present ts)) → ⊥)
-          ⊎ Some (λ i. TurnsBackWithin (suc r) (trackAt ts i) (masterOf ts i)) (members (followWord present ts)))
-          → (busy (next .tracks) < busy ts) ⊎ Some (λ i. TurnsBackWithin (suc r) (trackAt ts i) (masterOf ts i)) (members (followWord present ts))
+          ⊎ Some (λ i. PairLeaves (suc r) (trackAt ts i) (masterOf ts i)) (members (followWord present ts)))
+          → (busy (next .tracks) < busy ts) ⊎ Some (λ i. PairLeaves (suc r) (trackAt ts i) (masterOf ts i)) (members (followWord present ts))
       quiet w (inl s) = inl (rw leapt-busy at (tick-fewer ks ds clock present us lu w (rw (leap-tracks-word r present ts) s)))
       quiet w (inr (inl n)) = inl (rw leapt-busy at (tick-lower ks ds clock present us lu w (rw (leap-follow-word r present ts) n)))
       quiet w (inr (inr s)) = inr s

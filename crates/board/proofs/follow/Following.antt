@@ -20,6 +20,7 @@ use Rattle.board.specs.Board.{noTrack, trackAt, isPresent}
 use Rattle.board.specs.Tick.{keep, membersFrom, members, recordOf, playingWord, Stage, staged}
 use Rattle.board.specs.Tick.{followBit, followWord, bandRecords, followMember, followAll, bandBit, bandCount}
 use Rattle.board.proofs.rules.Broken.{present-bit, half-bit}
+use Rattle.board.proofs.tick.Bits.{each-from}
 use Rattle.board.proofs.tick.PlayingLaws.{WordBy}
 use Rattle.board.proofs.tick.Commands.{at-set}
 
@@ -71,7 +72,7 @@ module _ (clock i : ℕ) (t : Track) (band : ℕ) where
 -- a valid track is valid in any band
 pub banded-valid : (t : Track) → Valid t → (k : ℕ) → Valid (banded t k)
 banded-valid t v k =
-    record { ordered = v .ordered; loops = v .loops; mode = v .mode; direction = v .direction; repeat = v .repeat; due = v .due; cells = v .cells }
+    record { ordered = v .ordered; loops = v .loops; mode = v .mode; direction = v .direction; repeat = v .repeat; due = v .due; cells = v .cells; rate = v .rate }
 
 -- ---- all followers
 
@@ -239,18 +240,6 @@ follow-bit (suc i) present (t ∷ ts) h =
     let e : followWord (present / 2) ts ≡ w / 2 = omega arith in
     let r = follow-bit i (present / 2) ts (ap (λ (x : ℕ). x / 2 ^ i % 2) e ∙ ap (λ (x : ℕ). x % 2) (half-bit w i) ∙ h) in
     (ap (λ (x : ℕ). x % 2) (sym (half-bit present i)) ∙ r .0, r .1)
-
-each-from : (P : ℕ → Type 0) (k n w : ℕ) → ((i : ℕ) → i < k → w / 2 ^ i % 2 ≡ 1 → P (n + i)) → Each P (membersFrom k n w)
-unfolding membersFrom Each
-each-from P zero n w f = tt
-each-from P (suc k) n w f =
-    go (w % 2) refl
-    (each-from P k (suc n) (w / 2)
-    (λ i l e. subst P (add-suc n i ∙ sym (suc-add n i)) (f (suc i) (suc-le-suc l) (ap (λ (m : ℕ). m % 2) (sym (half-bit w i)) ∙ e))))
-  where
-    go : (d : ℕ) → w % 2 ≡ d → Each P (membersFrom k (suc n) (w / 2)) → Each P (keep d n (membersFrom k (suc n) (w / 2)))
-    go zero e a = a
-    go (suc d) e a = (subst P (add-zero n) (f zero (omega arith) (omega arith)), a)
 
 module _ (present : ℕ) (ts : List Track) where
   follower-bit : (P : ℕ → Type 0) → ((i : ℕ) → i < trackCount → present / 2 ^ i % 2 ≡ 1 → follows (trackAt ts i) ≡ true → P i)

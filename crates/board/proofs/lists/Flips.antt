@@ -5,13 +5,14 @@ use mathlib.Core.Path.{_≡_, refl, sym, ap, _∙_, subst}
 use mathlib.Core.List.{List, [], _∷_, _++_, map, map-append, append-assoc}
 use native.Mathlib.Omega.{arith}
 use lib.IntN.{ℤ, pos}
-use lib.Dec.{eqb}
+use lib.Dec.{eqb, leb}
 use mathlib.Core.Bool.{Bool, true, false}
 use lib.ListN.{length, length-set, set}
 use lib.Seq.{getD-set-same}
 use Rattle.track.specs.declared.Track.{Track}
 use Rattle.track.specs.Rule.{PLAYING, PAUSED, DUE, moved, entered}
-use Rattle.track.specs.Walk.{arrival, step}
+use Rattle.track.specs.Walk.{arrival}
+use Rattle.track.specs.Leap.{added, moves, played}
 use Rattle.track.specs.Setup.{turned}
 use Rattle.track.specs.Grid.{RESUME, gridOf}
 use Rattle.track.specs.declared.setup.Change.the-variants as change
@@ -28,10 +29,10 @@ use Rattle.board.specs.Setup.{boardWith, setUp}
 use Rattle.board.specs.Setup as outcome
 use Rattle.board.specs.Log.{capacity}
 use Rattle.board.specs.Mode.{ModeResult, callRecords, changing, modeResult}
-use Rattle.board.specs.Arrivals.{arrivalAt, arrivalsOf, arrivalRecord, isPoint}
+use Rattle.board.specs.Arrivals.{arrivalAt, arrivalNext, arrivalsOf, arrivalRecord, isPoint}
 use Rattle.board.specs.Quiet.{Some}
 use Rattle.board.specs.Tick.{members, playingWord, pointRecords, changeRecords, stepRecords, tickOf}
-use Rattle.board.specs.Steady.{straight}
+use Rattle.board.specs.Steady.{straightSteps}
 use Rattle.board.specs.Replay.{only}
 use Rattle.board.proofs.rules.Broken.{present-small, unbroken-is}
 use Rattle.board.proofs.rules.Present.{found-in}
@@ -47,14 +48,20 @@ infoThere b i l = infoAt (key i l) (keysOf (b .points)) (infosOf (b .points))
 -- ---- for any track that is turned so and resumed
 
 module _ (t : Track) (k : ℕ) (c : Closing t k) where
-  -- the point where it stands is reported again with the passes so far, and a change of mode with the pass that it closes
-  pub closing-records : (clock i d : ℕ) → stepRecords clock i (resumed t k) d
+  -- where the tick makes a step, the point where it stands is reported again with the passes so far, and a change of mode with the pass that
+  -- it closes
+  pub closing-records : moves (resumed t k) ≡ true → (clock i d : ℕ) → stepRecords clock i (resumed t k) d
       ≡ pointRecords clock i (t .position .0) (t .passes .0) d
-      ++ changeRecords clock i (resumed t k) (step (resumed t k) (waits d) .mode) (t .position .0) (t .passes .0 + 1)
+      ++ changeRecords clock i (resumed t k) (played (resumed t k) (waits d) .mode) (t .position .0) (t .passes .0 + 1)
   unfolding stepRecords
-  closing-records clock i d =
+  closing-records m clock i d =
       let passes : resumed t k .passes .0 ≡ t .passes .0 = ap (λ (u : Track). u .passes .0) (resumed-is t k c) in
-      rw (closing-passes t k c, closing-arrival t k c, passes) refl
+      rw (m, closing-passes t k c, closing-arrival t k c, passes) refl
+
+  -- its rate and its remainder are those that it had
+  pub closing-moves : moves (resumed t k) ≡ moves t
+  unfolding moves
+  closing-moves = ap (λ (u : Track). leb (u .ticks) (added u)) (resumed-is t k c)
 
   -- in a tick of any board with that track as track i, the record of its arrival, if a point stands there, is that one
   pub closing-reported : (b : Board) (i : ℕ) → trackAt (b .tracks) i ≡ resumed t k →
@@ -71,9 +78,9 @@ module _ (t : Track) (k : ℕ) (c : Closing t k) where
       go true n p = simp n
       go false n p = simp (n, p)
 
-  -- its line, as a track of a follower's pair, ends there
-  pub closing-straight : straight (resumed t k) ≡ 0
-  unfolding straight
+  -- its line, as a track of a follower's pair, ends with its next step
+  pub closing-straight : straightSteps (resumed t k) ≡ 0
+  unfolding straightSteps
   closing-straight = rw (resumed-is t k c) refl
 
 -- ---- direction, resume and a tick, on any unbroken board
@@ -84,22 +91,22 @@ Among xs ys = (before : List Record) × (behind : List Record) × (ys ≡ before
 
 -- the reports of a tick hold that of each member's arrival
 among-arrivals : (b : Board) (i : ℕ) (is : List ℕ) → Some (λ j. j ≡ i) is →
-    Among (map (arrivalRecord b) (arrivalAt b i (arrival (trackAt (b .tracks) i)))) (map (arrivalRecord b) (arrivalsOf b is))
+    Among (map (arrivalRecord b) (arrivalNext b i)) (map (arrivalRecord b) (arrivalsOf b is))
 unfolding Some arrivalsOf
 among-arrivals b i (j ∷ is) (inl e) = (
   [],
   map (arrivalRecord b) (arrivalsOf b is),
-  map-append (arrivalRecord b) (arrivalAt b j (arrival (trackAt (b .tracks) j))) (arrivalsOf b is)
-      ∙ ap (λ (n : ℕ). map (arrivalRecord b) (arrivalAt b n (arrival (trackAt (b .tracks) n))) ++ map (arrivalRecord b) (arrivalsOf b is)) e,
+  map-append (arrivalRecord b) (arrivalNext b j) (arrivalsOf b is)
+      ∙ ap (λ (n : ℕ). map (arrivalRecord b) (arrivalNext b n) ++ map (arrivalRecord b) (arrivalsOf b is)) e,
 )
 among-arrivals b i (j ∷ is) (inr s) =
     let h = among-arrivals b i is s in
-    let first = map (arrivalRecord b) (arrivalAt b j (arrival (trackAt (b .tracks) j))) in (
+    let first = map (arrivalRecord b) (arrivalNext b j) in (
       first ++ h .0,
       h .1,
-      map-append (arrivalRecord b) (arrivalAt b j (arrival (trackAt (b .tracks) j))) (arrivalsOf b is)
+      map-append (arrivalRecord b) (arrivalNext b j) (arrivalsOf b is)
           ∙ ap (λ (rs : List Record). first ++ rs) (h .2)
-          ∙ sym (append-assoc first (h .0) (map (arrivalRecord b) (arrivalAt b i (arrival (trackAt (b .tracks) i))) ++ h .1)),
+          ∙ sym (append-assoc first (h .0) (map (arrivalRecord b) (arrivalNext b i) ++ h .1)),
     )
 
 module _ (b : Board) (w : Unbroken b) (track : ℤ) (i k : ℕ) (found : foundIn (b .present) track ≡ natural.In i) (c : Closing (trackAt (b .tracks) i) k) where
@@ -146,19 +153,21 @@ module _ (b : Board) (w : Unbroken b) (track : ℤ) (i k : ℕ) (found : foundIn
     pub resumed-call : trackAt (modeResult u n track RESUME .board .tracks) i ≡ resumed (trackAt (b .tracks) i) k
     resumed-call = ap (λ (r : ModeResult). trackAt (r .board .tracks) i) goes-on ∙ plays
 
-    -- and in the tick behind that, the point where it stands, if there is one, is reported with the passes so far
-    pub reported-again : (let t = trackAt (b .tracks) i in
+    -- and in the tick behind that, if it makes a step, the point where it stands, if there is one, is reported with the passes so far
+    pub reported-again : moves (trackAt (b .tracks) i) ≡ true → (let t = trackAt (b .tracks) i in
         Among (pointRecords (b .clock .0 + 1) i (t .position .0) (t .passes .0) (infoThere b i (t .position .0)))
         (only isPoint (tickOf (modeResult u n track RESUME .board) .records)))
     unfolding left
-    reported-again =
+    reported-again made =
         let t = trackAt (b .tracks) i in
         let x = changing u i PLAYING .board in
         let long : length (x .tracks) ≡ trackCount = length-set (u .tracks) i (entered (trackAt (u .tracks) i) PLAYING) ∙ whole .shape .tracks in
         let on : trackAt (x .tracks) i .mode ≡ PLAYING = ap (λ (y : Track). y .mode) (plays ∙ resumed-is t k c) in
         let member = playing-member (u .present) i (x .tracks) long (found-in (u .present) track here) on in
         let report : Board → List Record = λ y. pointRecords (y .clock .0 + 1) i (t .position .0) (t .passes .0) (infoThere y i (t .position .0)) in
-        let told = closing-reported t k c x i plays ∙ ap report turned-is in
+        let move : moves (trackAt (x .tracks) i) ≡ true = ap moves plays ∙ closing-moves t k c ∙ made in
+        let next : arrivalNext x i ≡ arrivalAt x i (arrival (trackAt (x .tracks) i)) = simp move in
+        let told = ap (map (arrivalRecord x)) next ∙ closing-reported t k c x i plays ∙ ap report turned-is in
         let held = among-arrivals x i (members (playingWord (u .present) (x .tracks))) member in
         subst (λ (r : ModeResult). Among (report b) (only isPoint (tickOf (r .board) .records))) (sym goes-on)
         (held .0, held .1, tick-points x ∙ held .2 ∙ ap (λ (rs : List Record). held .0 ++ (rs ++ held .1)) told)

@@ -15,9 +15,11 @@ use Rattle.track.specs.declared.grid.Decision.the-variants as decision
 use Rattle.track.specs.Rule.{PLAYING, WAITING, far, coordinateLast, clockEnd, actionCell, Valid, Sound, eventMost}
 use Rattle.track.specs.Follow.{banded}
 use Rattle.track.specs.Grid.{PLAY, PAUSE, RESUME, STOP, gridOf}
-use Rattle.track.specs.Walk.{arrival, passesAt, step}
+use Rattle.track.specs.Walk.{arrival, passesAt}
+use Rattle.track.specs.Leap.{moves, played}
 use Rattle.track.proofs.Tests.{cond-cases, both-is}
-use Rattle.track.proofs.Arrivals.{arrival-inside, step-valid}
+use Rattle.track.proofs.Arrivals.{arrival-inside}
+use Rattle.track.proofs.Leaps.{played-mode}
 use Rattle.track.proofs.Follows.{judged-most}
 use Rattle.board.specs.declared.Board.{Board}
 use Rattle.board.specs.declared.log.Record.{Record}
@@ -37,8 +39,9 @@ use Rattle.board.proofs.points.Keys.{ascending-head, ascending-rest}
 use Rattle.board.proofs.rules.Broken.{Kept, kept-banded, kept-at, present-small, unbroken-is}
 use Rattle.board.proofs.setup.Keeping.{fresh-whole}
 use Rattle.board.proofs.tick.Commands.{Goes?, grid-goes, obeyed-keeps, at-set, recordsRun, recordsIn, obeyedIn, run-apart, records-first}
-use Rattle.board.proofs.tick.Steps.{members-ascend, foundAt, steppedIn, writtenBy, stepsFrom, steps-apart, steps-at, play-kept, tick-apart, entered-sound, later-sound, step-sound}
-use Rattle.board.proofs.tick.Found.{Allowed, found-allowed}
+use Rattle.board.proofs.tick.Steps.{members-ascend, foundAt, steppedIn, writtenBy, stepsFrom, steps-apart, steps-at, play-kept, tick-apart, entered-sound, later-sound, played-sound}
+use Rattle.board.proofs.tick.Found.{Allowed, met-allowed}
+use Rattle.board.proofs.tick.PlayingLaws.{players-play}
 use Rattle.board.proofs.follow.Following.{bandAt, bandedIn, enteredBy, followedFrom, followed-records, each-follower}
 use Rattle.board.proofs.follow.Rules.{kept-number, kept-event}
 use Rattle.board.proofs.quiet.Players.{members-present}
@@ -151,13 +154,14 @@ module _ (b : Board) (w : Unbroken b) (below : b .clock .0 < clockEnd) where
   here : clock ≤ clockEnd
   here = omega arith
 
-  -- what a step finds
+  -- what a tick of a track finds
   found : (i : ℕ) (t : Track) → Allowed (b .present) (foundBy ks ps i t)
-  found i t = found-allowed (b .present) (b .tracks) (key i (arrival t)) 0 ks ps (whole-points b (unbroken-is b w))
+  unfolding foundBy
+  found i t = met-allowed (b .present) (b .tracks) ks ps (whole-points b (unbroken-is b w)) (moves t) (key i (arrival t))
 
-  -- a step of a present track
+  -- a tick of a present track
   step-ranged : (i : ℕ) → isPresent (b .present) i ≡ true → Each Ranged (writtenBy ks ps clock i (b .tracks))
-  unfolding stepRecords
+  unfolding stepRecords Each
   step-ranged i p =
       let t = trackAt (b .tracks) i in
       let d = foundBy ks ps i t in
@@ -166,10 +170,11 @@ module _ (b : Board) (w : Unbroken b) (below : b .clock .0 < clockEnd) where
       let a = arrival-inside t (s .valid) in
       let m = passes-most t (arrival t) in
       let small = present-small (b .present) i p in
-      each-append Ranged (pointRecords clock i (arrival t) (t .passes .0) d) _
+      cond-cases (Each Ranged) (moves t)
+      (λ _. each-append Ranged (pointRecords clock i (arrival t) (t .passes .0) d) _
       (point-ranged clock here i (arrival t) (t .passes .0) d small (found i t .0) (omega arith) (omega (arith, s .passes)))
-      (change-ranged clock here i t (step t (waits d) .mode) (arrival t) (passesAt t (arrival t)) small (s .valid)
-      (step-valid t (s .valid) (waits d) .mode) (omega arith) (omega (arith, s .passes)))
+      (change-ranged clock here i t (played t (waits d) .mode) (arrival t) (passesAt t (arrival t)) small (s .valid)
+      (played-mode t (s .valid) (waits d)) (omega arith) (omega (arith, s .passes)))) (λ _. tt)
 
   -- as long as the tracks from lo on are as they were, the steps of members from lo on
   steps-ranged : (lo : ℕ) (is : List ℕ) (ts : List Track) → ascendingFrom lo is ≡ true → ((j : ℕ) → lo ≤ j → trackAt ts j ≡ trackAt (b .tracks) j)
@@ -219,8 +224,8 @@ module _ (b : Board) (w : Unbroken b) (below : b .clock .0 < clockEnd) where
       subst (λ (x : Stage). Each Ranged (x .records)) (sym (run-apart clock (s .reached) (s .tracks) (s .records) (s .reached)))
       (each-append Ranged (s .records) (recordsRun clock (s .reached) (s .tracks)) (r .0)
       (commands-ranged (s .reached) (s .tracks) (r .1)
-      (λ i p. steps-at ks ps clock (λ t. Sound t (b .clock)) (λ t. Sound t after) (λ t h. later-sound t (b .clock) h) (λ t h. step-sound t (b .clock) h)
-      i 0 is (staged (b .tracks) [] []) rises (w .tracks i p))))
+      (λ i p. steps-at ks ps clock (λ t. Sound t (b .clock)) (λ t. Sound t after) (λ t h. later-sound t (b .clock) h) (λ t h. played-sound t (b .clock) h)
+      i 0 is (staged (b .tracks) [] []) rises (players-play (b .present) (b .tracks)) (w .tracks i p))))
 
   -- a band's record
   band-ranged : (i : ℕ) (t : Track) (k : ℕ) → i < trackCount → Kept (b .present) i t after → Each Ranged (bandRecords clock i t k)

@@ -12,13 +12,14 @@ use Rattle.track.specs.declared.grid.Decision.{Decision}
 use Rattle.track.specs.declared.grid.Decision.the-variants as decision
 use Rattle.track.specs.Rule.{actionCell}
 use Rattle.track.specs.Grid.{PLAY, PAUSE, RESUME, STOP, gridOf}
-use Rattle.track.specs.Walk.{arrival, passesAt, step}
+use Rattle.track.specs.Walk.{arrival, passesAt}
+use Rattle.track.specs.Leap.{moves, played}
 use Rattle.track.proofs.Tests.{cond-cases}
 use Rattle.board.specs.declared.Board.{Board}
 use Rattle.board.specs.declared.log.Record.{Record}
 use Rattle.board.specs.declared.call.Call.{Call}
 use Rattle.board.specs.declared.call.Call.the-variants as call
-use Rattle.board.specs.Points.{ascendingFrom, keysOf, infosOf, waits, commandOf, targetOf, trackCount}
+use Rattle.board.specs.Points.{ascendingFrom, key, keysOf, infosOf, infoAt, waits, commandOf, targetOf, trackCount}
 use Rattle.board.specs.Board.{trackAt, noTrack}
 use Rattle.board.specs.Tick.{members}
 use Rattle.board.specs.Tick.{Stage, pointRecords, changeRecords, foundBy, stepRecords, reachedBy, stepMember}
@@ -26,7 +27,7 @@ use Rattle.board.specs.Tick.{stepAll, commandRecords, obeyedRecords, run
 use Rattle.board.specs.Mode.{ModeResult, modeResult}
 use Rattle.board.specs.Replay.{only}
 use Rattle.board.specs.Call.{makesOf}
-use Rattle.board.specs.Arrivals.{Arrival, arrivalAt, arrivalsOf, arrivalRecord, arrivalRecords, isPoint}
+use Rattle.board.specs.Arrivals.{Arrival, arrivalAt, arrivalNext, arrivalsOf, arrivalRecord, arrivalRecords, isPoint}
 use Rattle.board.proofs.points.Keys.{ascending-head, ascending-rest}
 use Rattle.board.proofs.tick.Commands.{recordsRun, recordsIn, obeyedIn, run-apart, records-first}
 use Rattle.board.proofs.tick.Steps.{members-ascend, foundAt, steppedIn, writtenBy, stepsFrom, steps-apart, tick-apart}
@@ -83,26 +84,37 @@ module _ (b : Board) where
   abbrev clock : ℕ
   clock = b .clock .0 + 1
 
-  -- a step's records of kind 1 are those of its arrival
-  step-points : (i : ℕ) → only isPoint (writtenBy ks ps clock i (b .tracks)) ≡ map (arrivalRecord b) (arrivalAt b i (arrival (trackAt (b .tracks) i)))
-  unfolding stepRecords pointRecords arrivalAt
-  step-points i =
-      let t = trackAt (b .tracks) i in
-      let d = foundAt ks ps clock i (b .tracks) in
-      let ds = pointRecords clock i (arrival t) (t .passes .0) d in
-      let new = step t (waits d) .mode in
-      let passes = passesAt t (arrival t) in
-      only-append isPoint ds (changeRecords clock i t new (arrival t) passes)
-      ∙ ap (λ (l : List Record). only isPoint ds ++ l) (change-none clock i t new (arrival t) passes)
-      ∙ append-nil (only isPoint ds)
-      ∙ go (eqb d 0)
+  -- the records of kind 1 of a tick of track i are those of its arrival, if it makes a step
+  step-points : (i : ℕ) → only isPoint (writtenBy ks ps clock i (b .tracks)) ≡ map (arrivalRecord b) (arrivalNext b i)
+  unfolding stepRecords foundBy pointRecords arrivalAt
+  step-points i = by (moves t) refl
     where
+      t : Track
+      t = trackAt (b .tracks) i
+
+      d : ℕ
+      d = infoAt (key i (arrival t)) ks ps
+
       a : Arrival
-      a = record { track = i; location = arrival (trackAt (b .tracks) i); info = foundAt ks ps clock i (b .tracks) }
+      a = record { track = i; location = arrival t; info = d }
 
       go : (z : Bool) → only isPoint (cond z [] (arrivalRecord b a ∷ [])) ≡ map (arrivalRecord b) (cond z [] (a ∷ []))
       go true = refl
       go false = refl
+
+      made : (new : ℕ) →
+          only isPoint (pointRecords clock i (arrival t) (t .passes .0) d ++ changeRecords clock i t new (arrival t) (passesAt t (arrival t)))
+          ≡ map (arrivalRecord b) (arrivalAt b i (arrival t))
+      made new =
+          let ds = pointRecords clock i (arrival t) (t .passes .0) d in
+          only-append isPoint ds (changeRecords clock i t new (arrival t) (passesAt t (arrival t)))
+          ∙ ap (λ (l : List Record). only isPoint ds ++ l) (change-none clock i t new (arrival t) (passesAt t (arrival t)))
+          ∙ append-nil (only isPoint ds)
+          ∙ go (eqb d 0)
+
+      by : (m : Bool) → moves t ≡ m → only isPoint (writtenBy ks ps clock i (b .tracks)) ≡ map (arrivalRecord b) (arrivalNext b i)
+      by true e = rw e (made (played t (waits d) .mode))
+      by false e = rw e refl
 
   -- as long as the tracks from lo on are as they were, so are the reports of members from lo on
   steps-points : (lo : ℕ) (is : List ℕ) (ts : List Track) → ascendingFrom lo is ≡ true → ((j : ℕ) → lo ≤ j → trackAt ts j ≡ trackAt (b .tracks) j) →
@@ -118,7 +130,7 @@ module _ (b : Board) where
       ap (λ (s : Stage). only isPoint (s .records)) (steps-apart ks ps clock is us os (reachedBy (foundAt ks ps clock i ts)))
       ∙ only-append isPoint os (stepsFrom ks ps clock is us .records)
       ∙ (λ j. (ap (λ (t : Track). only isPoint (stepRecords clock i t (foundBy ks ps i t))) e ∙ step-points i) j ++ rest j)
-      ∙ sym (map-append (arrivalRecord b) (arrivalAt b i (arrival (trackAt (b .tracks) i))) (arrivalsOf b is))
+      ∙ sym (map-append (arrivalRecord b) (arrivalNext b i) (arrivalsOf b is))
 
 -- ---- the laws
 

@@ -7,12 +7,13 @@ use lib.Dec.{eqb}
 use borrow.Author.Tests.{eqb-true}
 use Rattle.track.specs.declared.Track.{Track}
 use Rattle.track.proofs.Tests.{both}
-use Rattle.track.specs.Rule.{newTrack, entered, every, orderedTest, eventsTest, cellsTest, validTest, soundTest}
+use Rattle.track.specs.Rule.{newTrack, entered, every, orderedTest, eventsTest, cellsTest, ratedTest, validTest, soundTest}
 use Rattle.track.specs.Follow.{upToZero, zerosTest, pairsTest, bandOf, judged, followerTest}
 use Rattle.track.specs.Number.{coordinateOf, within, naturalOf, valueOf}
 use Rattle.track.specs.Grid.{gridOf}
 use Rattle.track.specs.Walk.{arrival, passesAt, stops, visited, step}
-use Rattle.track.specs.Setup.{settled, permits, startSet, endSet, loopsSet, repeatSet, closes, turnedTo, directionSet, actionSet, jumpTo, setBy, changedBy}
+use Rattle.track.specs.Leap.{moves, remainderLeft, played}
+use Rattle.track.specs.Setup.{settled, permits, startSet, endSet, loopsSet, repeatSet, closes, turnedTo, directionSet, actionSet, jumpTo, rateSet, setBy, changedBy}
 use Rattle.board.specs.declared.Board.{Board}
 use Rattle.board.specs.declared.call.Call.{Call}
 use Rattle.board.specs.Log.{le, twosOf, recordBytes, logBytes, positionOf, bytesOf}
@@ -20,7 +21,7 @@ use Rattle.board.specs.Points.{keysOf, infosOf, keyOf, infoOf, pointOf, 
 use Rattle.board.specs.Board.{isPresent, masterTest, trackTest, tracksTest, placeTest, allowedTest, pointsTest, shapeTest, unbrokenParts, freshBoard, foundIn}
 use Rattle.board.specs.Setup.{setUp, addTrack, describedBy, setPoint, rangedTest, thresholdsIn, eventsIn, risingTest, putMaster, setMaster}
 use Rattle.board.specs.Tick.{membersFrom}
-use Rattle.board.specs.Tick.{pointRecords, changeRecords, playingWord, stepRecords, stepMember, stepAll, commandRecords, commanded, runCommand, runAll, playFrom, followWord, bandRecords, followMember, followAll, tickFrom}
+use Rattle.board.specs.Tick.{pointRecords, changeRecords, playingWord, foundBy, stepRecords, stepMember, stepAll, commandRecords, commanded, runCommand, runAll, playFrom, followWord, bandRecords, followMember, followAll, tickFrom}
 use Rattle.board.specs.Mode.{changesTo, decided, modeResult}
 use Rattle.board.specs.Cut.{All, ticks, advance, performs}
 use Rattle.board.specs.Replay.{World, perform}
@@ -30,7 +31,7 @@ use Rattle.board.specs.Lists.{cutUp}
 
 -- to unfold it is to compute with the rule: all its definitions but those of drop point, clear and the queries
 unfoldable pub ran : List Call → World Board → All Reply (World Board)
-unfolding newTrack entered every orderedTest eventsTest cellsTest validTest soundTest upToZero zerosTest pairsTest followerTest bandOf judged coordinateOf within naturalOf valueOf gridOf arrival passesAt stops visited step settled permits startSet endSet loopsSet repeatSet closes turnedTo directionSet actionSet jumpTo setBy changedBy le twosOf positionOf bytesOf recordBytes logBytes keyOf infoOf pointOf hasKey firstFrom insertAt insertRow noPoints infoAt replaced added storedIn isPresent masterTest trackTest tracksTest placeTest allowedTest pointsTest shapeTest unbrokenParts freshBoard foundIn setUp addTrack describedBy setPoint ascendingFrom rangedTest thresholdsIn eventsIn risingTest putMaster setMaster membersFrom waits pointRecords changeRecords playingWord stepRecords stepMember stepAll commandRecords commanded runCommand runAll playFrom followWord bandRecords followMember followAll tickFrom changesTo decided modeResult ticks advance haltOf barOf saysOf makesOf runCount
+unfolding newTrack entered every orderedTest eventsTest cellsTest ratedTest validTest soundTest upToZero zerosTest pairsTest followerTest bandOf judged coordinateOf within naturalOf valueOf gridOf arrival passesAt stops visited step moves remainderLeft played foundBy settled permits startSet endSet loopsSet repeatSet closes turnedTo directionSet actionSet jumpTo rateSet setBy changedBy le twosOf positionOf bytesOf recordBytes logBytes keyOf infoOf pointOf hasKey firstFrom insertAt insertRow noPoints infoAt replaced added storedIn isPresent masterTest trackTest tracksTest placeTest allowedTest pointsTest shapeTest unbrokenParts freshBoard foundIn setUp addTrack describedBy setPoint ascendingFrom rangedTest thresholdsIn eventsIn risingTest putMaster setMaster membersFrom waits pointRecords changeRecords playingWord stepRecords stepMember stepAll commandRecords commanded runCommand runAll playFrom followWord bandRecords followMember followAll tickFrom changesTo decided modeResult ticks advance haltOf barOf saysOf makesOf runCount
 ran calls w = performs (perform gridstep) (cutUp calls) w
 
 -- what is seen of it: all answers, and at the end the clock, the number of records held and the log

@@ -42,6 +42,14 @@ module _ (z : ℤ) (most : ℕ) where
       go (natural.In k) h = refl
       go natural.Outside h = absurd (h refl)
 
+  -- it is never above the most
+  pub in-most : numberIn (naturalOf z 1 most) ≤ most
+  in-most = go (naturalOf z 1 most) refl
+    where
+      go : (n : Natural) → naturalOf z 1 most ≡ n → numberIn n ≤ most
+      go (natural.In k) e = natural-in z 1 most e .2
+      go natural.Outside e = omega arith
+
   -- one in range is from 1 to the most
   pub in-range : isIn (naturalOf z 1 most) ≡ true → (1 ≤ numberIn (naturalOf z 1 most)) × (numberIn (naturalOf z 1 most) ≤ most)
   in-range = go (naturalOf z 1 most) refl

@@ -168,6 +168,7 @@ module _ (b : Board) (whole : Unbroken b) (i : ℕ) where
       allowed (change.Direction d) false e = refl
       allowed (change.Action from to event) false e = refl
       allowed (change.Jump p) false e = (e, refl)
+      allowed (change.Rate p q) false e = refl
 
   set-up-path : (track : ℤ) (c : Change) →
       let o = setUp b track c in

@@ -12,9 +12,11 @@ use borrow.Author.Tests.{eqb-true, eqb-false, eq-eqb}
 use Rattle.track.specs.declared.Track.{Track}
 use Rattle.track.specs.declared.grid.Decision.{Decision}
 use Rattle.track.specs.declared.grid.Decision.the-variants as decision
-use Rattle.track.specs.Rule.{STOPPED, PLAYING, PAUSED, WAITING, stopped, entered}
+use Rattle.track.specs.Rule.{STOPPED, PLAYING, PAUSED, WAITING, stopped, withRemainder, entered}
 use Rattle.track.specs.Grid.{PLAY, PAUSE, RESUME, STOP, gridOf}
 use Rattle.track.specs.Walk.{arrival, stops, visited, step}
+use Rattle.track.specs.Leap.{moves, remainderLeft, played}
+use Rattle.track.proofs.Leaps.{remainder-stops}
 use Rattle.track.proofs.Tests.{cond-cases, both, refuted}
 use Rattle.board.specs.Points.{ascendingFrom, key, keysOf, infosOf, infoAt, hasKey, waits, commandOf, targetOf, trackCount}
 use Rattle.board.proofs.points.Keys.{same-or-not, ascending-head, ascending-rest}
@@ -31,7 +33,7 @@ use Rattle.board.proofs.tick.Steps.{members-ascend, foundAt, steppedIn,
 use Rattle.board.proofs.tick.Found.{found-target}
 use Rattle.board.specs.Call.{ticked}
 use Rattle.board.proofs.advance.Advancing.{whole-points}
-use Rattle.board.specs.Arrivals.{Arrival, arrivalAt, arrivalsOf}
+use Rattle.board.specs.Arrivals.{Arrival, arrivalAt, arrivalNext, arrivalsOf}
 use Rattle.board.specs.premo.Automaton.{Act, doPLAY, doPAUSE, doRESUME, doSTOP, doWAIT, donePlay, offers, after, Path}
 use Rattle.board.specs.premo.Acts.{modeOf, stepActs, actOf, ruled, obeyActs, commandActs, reachedIn, plays, infoMet, tickActs}
 use Rattle.board.proofs.premo.Paths.{path-append}
@@ -68,7 +70,7 @@ module _ (keys infos : List ℕ) (clock : ℕ) where
   -- each member is stepped once, and no other track
   steps-at : (i lo : ℕ) (is : List ℕ) (s : Stage) → ascendingFrom lo is ≡ true → i < length (s .tracks) →
       let t = trackAt (s .tracks) i in
-      trackAt (stepAll keys infos clock is s .tracks) i ≡ cond (hasKey i is) (step t (waits (foundBy keys infos i t))) t
+      trackAt (stepAll keys infos clock is s .tracks) i ≡ cond (hasKey i is) (played t (waits (foundBy keys infos i t))) t
   unfolding hasKey stepAll stepMember
   steps-at i lo [] s a l = refl
   steps-at i lo (k ∷ is) s a l =
@@ -79,13 +81,13 @@ module _ (keys infos : List ℕ) (clock : ℕ) where
       ts = s .tracks
 
       after : ℕ → Track
-      after j = step (trackAt ts j) (waits (foundBy keys infos j (trackAt ts j)))
+      after j = played (trackAt ts j) (waits (foundBy keys infos j (trackAt ts j)))
 
       next : Stage
       next = stepMember keys infos clock k s
 
       other : Track → Track
-      other t = cond (hasKey i is) (step t (waits (foundBy keys infos i t))) t
+      other t = cond (hasKey i is) (played t (waits (foundBy keys infos i t))) t
 
       go : trackAt (stepAll keys infos clock is next .tracks) i ≡ other (trackAt (next .tracks) i) → ascendingFrom (suc k) is ≡ true
           → (b : Bool) → eqb k i ≡ b
@@ -113,15 +115,23 @@ plays-is b i l =
     each-has (λ k. (trackAt (b .tracks) k .mode ≡ PLAYING) × (isPresent (b .present) k ≡ true)) i (members (playingWord (b .present) (b .tracks)))
     (members-present (b .present) (b .tracks) l)
 
--- a step
-step-path : (t : Track) (d : ℕ) → t .mode ≡ PLAYING → Path (t .mode) (stepActs t d) (step t (waits d) .mode)
-unfolding stepActs step visited offers after Path
-step-path t d h = go (stops t) (waits d)
+-- a tick of its own
+step-path : (t : Track) (d : ℕ) → t .mode ≡ PLAYING → Path (t .mode) (stepActs t d) (played t (waits d) .mode)
+unfolding stepActs played step visited offers after Path
+step-path t d h = by (moves t)
   where
-    go : (a w : Bool) → Path (t .mode) (cond a (donePlay ∷ []) (cond w (doWAIT ∷ []) [])) (cond a (stopped t) (visited t (cond w WAITING (t .mode))) .mode)
+    on : Track
+    on = withRemainder t (remainderLeft t)
+
+    go : (a w : Bool) → Path (t .mode) (cond a (donePlay ∷ []) (cond w (doWAIT ∷ []) [])) (cond a (stopped on) (visited on (cond w WAITING (on .mode))) .mode)
     go true w = (eq-eqb (t .mode) PLAYING h, refl)
     go false true = (eq-eqb (t .mode) PLAYING h, refl)
     go false false = refl
+
+    by : (m : Bool) → Path (t .mode) (cond m (cond (stops t) (donePlay ∷ []) (cond (waits d) (doWAIT ∷ []) [])) [])
+        (cond m (cond (stops on) (stopped on) (visited on (cond (waits d) WAITING (on .mode)))) on .mode)
+    by true = rw (remainder-stops t (remainderLeft t)) (go (stops t) (waits d))
+    by false = refl
 
 -- ---- the points reached
 
@@ -146,6 +156,17 @@ module _ (b : Board) where
       go true = refl
       go false = refl
 
+  reached-next : (i : ℕ) → reachedBy (foundBy ks ps i (trackAt (b .tracks) i)) ≡ map (λ (a : Arrival). a .info) (arrivalNext b i)
+  unfolding foundBy
+  reached-next i = go (moves t)
+    where
+      t : Track
+      t = trackAt (b .tracks) i
+
+      go : (m : Bool) → reachedBy (cond m (infoAt (key i (arrival t)) ks ps) 0) ≡ map (λ (a : Arrival). a .info) (cond m (arrivalAt b i (arrival t)) [])
+      go true = reached-at i (arrival t)
+      go false = refl
+
   -- as long as the tracks from lo on are as they were, so are the points that members from lo on reach
   steps-reached : (lo : ℕ) (is : List ℕ) (ts : List Track) → ascendingFrom lo is ≡ true → ((j : ℕ) → lo ≤ j → trackAt ts j ≡ trackAt (b .tracks) j)
       → stepsFrom ks ps clock is ts .reached ≡ map (λ (a : Arrival). a .info) (arrivalsOf b is)
@@ -157,8 +178,8 @@ module _ (b : Board) where
       let rest = steps-reached (suc i) is us (ascending-rest lo i is a)
       (λ j h. getD-set-other ts i j _ noTrack (λ q. absurd (omega arith)) ∙ same j (omega arith)) in
       ap (λ (s : Stage). s .reached) (steps-apart ks ps clock is us (writtenBy ks ps clock i ts) (reachedBy (foundAt ks ps clock i ts)))
-      ∙ (λ j. (ap (λ (t : Track). reachedBy (foundBy ks ps i t)) (same i l) ∙ reached-at i (arrival (trackAt (b .tracks) i))) j ++ rest j)
-      ∙ sym (map-append (λ (a : Arrival). a .info) (arrivalAt b i (arrival (trackAt (b .tracks) i))) (arrivalsOf b is))
+      ∙ (λ j. (ap (λ (t : Track). reachedBy (foundBy ks ps i t)) (same i l) ∙ reached-next i) j ++ rest j)
+      ∙ sym (map-append (λ (a : Arrival). a .info) (arrivalNext b i) (arrivalsOf b is))
 
 -- ---- the commands
 
@@ -223,14 +244,14 @@ module _ (b : Board) (whole : Unbroken b) (i : ℕ) (absent : isPresent (b .pres
       let d = infoAt k (ks b) (ps b) in
       ⊎-elim (λ (z : commandOf d ≡ 0). z)
       (λ (n : commandOf d ≡ 0 → ⊥).
-      let target = found-target (b .present) (b .tracks) (ks b) (ps b) (whole-points b (unbroken-is b whole)) k n in
+      let target = found-target (b .present) (b .tracks) (ks b) (ps b) (whole-points b (unbroken-is b whole)) true k n in
       absurd (true≢false (sym target ∙ ap (isPresent (b .present)) (eqb-true (targetOf d) i e) ∙ absent)))
       (same-or-not (commandOf d) 0)
 
   reached-elsewhere : (is : List ℕ) → Each (Elsewhere i) (map (λ (a : Arrival). a .info) (arrivalsOf b is))
   unfolding Each arrivalsOf arrivalAt
   reached-elsewhere [] = tt
-  reached-elsewhere (j ∷ is) = go (eqb d 0) (reached-elsewhere is)
+  reached-elsewhere (j ∷ is) = by (moves (trackAt (b .tracks) j)) (reached-elsewhere is)
     where
       l : ℕ
       l = arrival (trackAt (b .tracks) j)
@@ -243,6 +264,11 @@ module _ (b : Board) (whole : Unbroken b) (i : ℕ) (absent : isPresent (b .pres
       go true rest = rest
       go false rest = (info-elsewhere (key j l), rest)
 
+      by : (m : Bool) → Each (Elsewhere i) (map (λ (a : Arrival). a .info) (arrivalsOf b is))
+          → Each (Elsewhere i) (map (λ (a : Arrival). a .info) (cond m (arrivalAt b j l) [] ++ arrivalsOf b is))
+      by true rest = go (eqb d 0) rest
+      by false rest = rest
+
 -- ---- the tick
 
 module _ (b : Board) (whole : Unbroken b) (i : ℕ) where
@@ -250,28 +276,28 @@ module _ (b : Board) (whole : Unbroken b) (i : ℕ) where
   before = trackAt (b .tracks) i
 
   abbrev stepped : Track
-  stepped = cond (plays b i) (step before (waits (infoMet b i))) before
+  stepped = cond (plays b i) (played before (waits (infoMet b i))) before
 
   own-path : Path (before .mode) (cond (plays b i) (stepActs before (infoMet b i)) []) (stepped .mode)
   unfolding Path
   own-path = go (plays b i) refl
     where
       go : (p : Bool) → plays b i ≡ p
-          → Path (before .mode) (cond p (stepActs before (infoMet b i)) []) (cond p (step before (waits (infoMet b i))) before .mode)
+          → Path (before .mode) (cond p (stepActs before (infoMet b i)) []) (cond p (played before (waits (infoMet b i))) before .mode)
       go true e = step-path before (infoMet b i) (plays-is b i (whole .shape .tracks) e .0)
       go false e = refl
 
-  abbrev played : Stage
-  played = playFrom (ks b) (ps b) (clock b) (b .present) (b .tracks)
+  abbrev afterPlay : Stage
+  afterPlay = playFrom (ks b) (ps b) (clock b) (b .present) (b .tracks)
 
   -- the third part leaves every mode
-  played-mode : trackAt (tickOf b .tracks) i .mode ≡ trackAt (played .tracks) i .mode
+  after-mode : trackAt (tickOf b .tracks) i .mode ≡ trackAt (afterPlay .tracks) i .mode
   unfolding tickFrom
-  played-mode =
-      follow-keeps (clock b) (λ t. t .mode ≡ trackAt (played .tracks) i .mode) (λ t m e. e) i (members (followWord (b .present) (b .tracks))) played refl
+  after-mode =
+      follow-keeps (clock b) (λ t. t .mode ≡ trackAt (afterPlay .tracks) i .mode) (λ t m e. e) i (members (followWord (b .present) (b .tracks))) afterPlay refl
 
   present-path : isPresent (b .present) i ≡ true
-      → Path (before .mode) (cond (plays b i) (stepActs before (infoMet b i)) [] ++ commandActs i (reachedIn b) stepped) (trackAt (played .tracks) i .mode)
+      → Path (before .mode) (cond (plays b i) (stepActs before (infoMet b i)) [] ++ commandActs i (reachedIn b) stepped) (trackAt (afterPlay .tracks) i .mode)
   unfolding playFrom
   present-path h =
       let word = playingWord (b .present) (b .tracks) in
@@ -299,5 +325,5 @@ module _ (b : Board) (whole : Unbroken b) (i : ℕ) where
   tick-path = go (isPresent (b .present) i) refl
     where
       go : (p : Bool) → isPresent (b .present) i ≡ p → Path (cond p (before .mode) STOPPED) (tickActs i b) (cond p (trackAt (tickOf b .tracks) i .mode) STOPPED)
-      go true e = subst (Path (before .mode) (tickActs i b)) (sym played-mode) (present-path e)
+      go true e = subst (Path (before .mode) (tickActs i b)) (sym after-mode) (present-path e)
       go false e = rw (absent-acts e) refl

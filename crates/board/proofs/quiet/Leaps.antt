@@ -11,7 +11,8 @@ use lib.Seq.{getD-at, set-at, append-snoc, length-take-le, getD-take}
 use borrow.Author.Tests.{eq-eqb}
 use Rattle.track.specs.declared.Track.{Track}
 use Rattle.track.specs.declared.Ticks.{Ticks}
-use Rattle.track.specs.Rule.{clockEnd, Valid, Sound}
+use Rattle.track.specs.Rule.{PLAYING, clockEnd, Valid, Sound}
+use Rattle.track.specs.Stride.{stride}
 use Rattle.track.specs.Leap.{leap}
 use Rattle.track.proofs.Leaps.{leap-zero, leap-add}
 use Rattle.board.specs.declared.Board.{Board}
@@ -61,7 +62,7 @@ leap-into k present ts l = ap (λ (ms : List ℕ). leapInto k ts ms ts) (members
 pub leapt-cases : (P : ℕ → Track → Type 0) (k d : ℕ) (t : Track) → (playBit d t ≡ 0 → P 0 t)
     → ((m : ℕ) → playBit d t ≡ suc m → P (suc m) (leap t k))
     → P (playBit d (whereSet (playBit d t) (leap t k) t)) (whereSet (playBit d t) (leap t k) t)
-unfolding leap
+unfolding leap stride
 leapt-cases P k d t f g = go (playBit d t) refl
   where
     go : (m : ℕ) → playBit d t ≡ m → P (playBit d (whereSet m (leap t k) t)) (whereSet m (leap t k) t)
@@ -146,13 +147,14 @@ module _ (present : ℕ) (ts : List Track) (l : length ts ≡ trackCount) (leapa
 
 -- ---- which tracks can be leapt
 
-each-present : (P : Track → Type 0) (n present : ℕ) (ts : List Track) → ((j : ℕ) → j < length ts → 0 < present / 2 ^ j % 2 → P (trackAt ts j))
+each-present : (P : Track → Type 0) (n present : ℕ) (ts : List Track)
+    → ((j : ℕ) → j < length ts → 0 < present / 2 ^ j % 2 → trackAt ts j .mode ≡ PLAYING → P (trackAt ts j))
     → EachPlaying (λ n t. P t) n present ts
 unfolding EachPlaying
 each-present P n present [] f = tt
 each-present P n present (t ∷ ts) f = (
-  λ h. f 0 (zero-lt-suc (length ts)) (let b = bit-plays (present % 2) t h in omega arith),
-  each-present P (suc n) (present / 2) ts (λ j m b. f (suc j) (suc-le-suc m) (rw (half-bit present j) at b)),
+  λ h. f 0 (zero-lt-suc (length ts)) (let b = bit-plays (present % 2) t h in omega arith) (bit-plays (present % 2) t h .0),
+  each-present P (suc n) (present / 2) ts (λ j m b p. f (suc j) (suc-le-suc m) (rw (half-bit present j) at b) p),
 )
 
 -- the playing ones, where the present ones keep the rules
@@ -161,10 +163,10 @@ pub sound-leapable : (present : ℕ) (ts : List Track) (clock : Ticks) → lengt
 sound-leapable present ts clock l c f =
     each-member (λ n t. CanLeap t) present ts l
     (each-present CanLeap 0 present ts
-    (λ j m b.
+    (λ j m b p.
     let e : present / 2 ^ j % 2 ≡ 1 = omega arith in
     let s = f j (sym (present-bit present j (omega arith)) ∙ eq-eqb (present / 2 ^ j % 2) 1 e) in
-    record { valid = s .valid; passes = omega (arith, s .passes) }))
+    record { valid = s .valid; plays = p; passes = omega (arith, s .passes) }))
 
 -- ---- an unbroken board
 

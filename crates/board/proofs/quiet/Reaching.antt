@@ -1,8 +1,8 @@
--- The steps of a track to the nearest of its points, and to the first that ends the quiet.
-use Prim.Native.Nat.{ℕ, _+_, _-_, _%_, _≤_, _<_, min, zero-le}
+-- The steps of a track to the nearest of its points, and to the first that is loud; the ticks before that one.
+use Prim.Native.Nat.{ℕ, suc, _+_, _-_, _%_, _≤_, _<_, min, zero-le}
 use mathlib.Core.Path.{_≡_, refl, sym, ap, _∙_}
 use mathlib.Core.Logic.{⊎-elim}
-use mathlib.Core.Bool.{Bool, true, false, cond, or-true, true≢false}
+use mathlib.Core.Bool.{Bool, true, false, cond, or-true, _&&_, _||_, true≢false}
 use mathlib.Core.List.{List}
 use native.Mathlib.Nat.{mod-eq-of-lt, mod-lt, add-mod-right}
 use native.Mathlib.Omega.{arith}
@@ -11,14 +11,16 @@ use Rattle.track.specs.declared.Track.{Track}
 use Rattle.track.specs.declared.Coordinate.{Coordinate}
 use Rattle.track.specs.Rule.{clockEnd, backward, Valid, home}
 use Rattle.track.specs.Walk.{arrival, stops}
-use Rattle.track.specs.Leap.{span, phase, place, next, leap, running, stepsTo}
+use Rattle.track.specs.Stride.{span, phase, place, next, stride, running, stepsTo}
+use Rattle.track.specs.Leap.{moves, stepsIn, leap, ticksBefore}
 use Rattle.track.proofs.Tests.{refuted}
 use Rattle.track.proofs.Arrivals.{next-small, place-next, home-inside}
-use Rattle.track.proofs.Leaps.{leap-arrival, leap-zero, leap-runs, leap-stops, phase-small, place-phase, first-arrival, steps-small, running-before, running-exact}
+use Rattle.track.proofs.Strides.{stride-arrival, stride-zero, stride-runs, stride-stops, phase-small, place-phase, first-arrival, steps-small, running-before, running-exact}
+use Rattle.track.proofs.Leaps.{leap-arrival, leap-stops, steps-suc, before-small, before-none, before-made, before-moves, before-late}
 use Rattle.board.specs.declared.points.Near.{Near}
 use Rattle.board.specs.declared.points.Near.the-variants.{At, Nothing}
 use Rattle.board.specs.Points.{key, ascendingFrom, hasKey, infoAt, nearest}
-use Rattle.board.specs.Quiet.{NonzeroInfos, reaches, endsQuiet, ToPoint, QuietSteps}
+use Rattle.board.specs.Quiet.{NonzeroInfos, reaches, loudStep, endsQuiet, ToPoint, QuietSteps, QuietTicks}
 use Rattle.board.proofs.points.Keys.{lt-or-ge}
 use Rattle.board.proofs.points.Table.{info-none}
 use Rattle.board.proofs.points.Ranges.{Nearest, nearest-is}
@@ -79,13 +81,13 @@ module _ (ks : List ℕ) (i : ℕ) (t : Track) (v : Valid t) where
   abbrev at : ℕ → Bool
   at p = hasKey (key i (place t p)) ks
 
-  reach : (j : ℕ) → reaches ks i (leap t j) ≡ at ((next t + j) % span t)
-  reach j = ap (λ (l : ℕ). hasKey (key i l) ks) (leap-arrival t v j)
+  reach : (j : ℕ) → reaches ks i (stride t j) ≡ at ((next t + j) % span t)
+  reach j = ap (λ (l : ℕ). hasKey (key i l) ks) (stride-arrival t v j)
 
-  reach-on : (j : ℕ) → next t + j < span t → reaches ks i (leap t j) ≡ at (next t + j)
+  reach-on : (j : ℕ) → next t + j < span t → reaches ks i (stride t j) ≡ at (next t + j)
   reach-on j h = reach j ∙ ap at (mod-eq-of-lt h)
 
-  reach-round : (j : ℕ) → span t ≤ next t + j → j < span t → reaches ks i (leap t j) ≡ at (next t + j - span t)
+  reach-round : (j : ℕ) → span t ≤ next t + j → j < span t → reaches ks i (stride t j) ≡ at (next t + j - span t)
   reach-round j h l =
       let s = next-small t v in
       let m : next t + j - span t < span t = omega (arith, s) in
@@ -94,14 +96,14 @@ module _ (ks : List ℕ) (i : ℕ) (t : Track) (v : Valid t) where
 
   -- the next step reaches one
   to-here : reaches ks i t ≡ true → ToPoint ks i t 0
-  to-here h = record { small = zero-le; none = λ j l. absurd (omega arith); exact = λ _. ap (reaches ks i) (leap-zero t v) ∙ h }
+  to-here h = record { small = zero-le; none = λ j l. absurd (omega arith); exact = λ _. ap (reaches ks i) (stride-zero t v) ∙ h }
 
   module _ (c r : ℕ) (above : t .start .0 ≤ c) (below : c ≤ t .end .0) (there : hasKey (key i c) ks ≡ true) (er : r ≡ stepsTo t c) where
     small : r ≤ clockEnd
     small = let s = steps-small t v c above below in omega arith
 
-    arrives : reaches ks i (leap t r) ≡ true
-    arrives = ap (λ (x : ℕ). reaches ks i (leap t x)) er ∙ ap (λ (l : ℕ). hasKey (key i l) ks) (first-arrival t v c above below) ∙ there
+    arrives : reaches ks i (stride t r) ≡ true
+    arrives = ap (λ (x : ℕ). reaches ks i (stride t x)) er ∙ ap (λ (l : ℕ). hasKey (key i l) ks) (first-arrival t v c above below) ∙ there
 
     steps-up : next t ≤ phase t c → stepsTo t c ≡ phase t c - next t
     unfolding stepsTo
@@ -271,29 +273,57 @@ module _ {ks ds : List ℕ} {t : Track} (s : Sought ks ds t) where
 -- ---- the quiet steps: to the point or to the stop, whichever is sooner
 
 module _ (ks : List ℕ) (i : ℕ) (t : Track) (v : Valid t) (s p : ℕ) (es : s ≡ running t) (to : ToPoint ks i t p) where
-  runs : (j : ℕ) → j < s → stops (leap t j) ≡ false
-  runs j l = leap-runs t v j (λ e. omega (arith, running-before t v e))
+  runs : (j : ℕ) → j < s → stops (stride t j) ≡ false
+  runs j l = stride-runs t v j (λ e. omega (arith, running-before t v e))
 
-  ends-quiet-stop : s < clockEnd → endsQuiet ks i (leap t s) ≡ true
-  unfolding endsQuiet
-  ends-quiet-stop h =
+  loud-stop : s < clockEnd → loudStep ks i (stride t s) ≡ true
+  unfolding loudStep
+  loud-stop h =
       let e = running-exact t v (omega arith) in
-      rw (leap-stops t v s (e .0) (omega arith))
+      rw (stride-stops t v s (e .0) (omega arith))
 
-  ends-quiet-point : p < clockEnd → endsQuiet ks i (leap t p) ≡ true
-  unfolding endsQuiet
-  ends-quiet-point h = rw (to .exact h) (or-true (stops (leap t p)))
+  loud-point : p < clockEnd → loudStep ks i (stride t p) ≡ true
+  unfolding loudStep
+  loud-point h = rw (to .exact h) (or-true (stops (stride t p)))
 
   -- the lesser of the two is the number of quiet steps
   pub sooner : {r : ℕ} → r ≡ min s p → QuietSteps ks i t r
-  unfolding endsQuiet
+  unfolding loudStep
   sooner {r} e =
       record {
         small = omega (arith, to .small);
         quiet = λ j l. rw (runs j (omega arith), to .none j (omega arith));
         exact =
             λ h. ⊎-elim
-            (λ (m : s < p). let q : r ≡ s = omega arith in rw q (ends-quiet-stop (omega (arith, to .small))))
-            (λ (m : p ≤ s). let q : r ≡ p = omega arith in rw q (ends-quiet-point (omega arith)))
+            (λ (m : s < p). let q : r ≡ s = omega arith in rw q (loud-stop (omega (arith, to .small))))
+            (λ (m : p ≤ s). let q : r ≡ p = omega arith in rw q (loud-point (omega arith)))
             (lt-or-ge s p);
       }
+
+-- ---- the quiet ticks: those before the one that makes the loud step
+
+module _ (ks : List ℕ) (i : ℕ) (t : Track) (v : Valid t) (s : ℕ) (q : QuietSteps ks i t s) where
+  -- the step that a tick makes, n ticks on
+  loud-leap : (n : ℕ) → loudStep ks i (leap t n) ≡ loudStep ks i (stride t (stepsIn t n))
+  unfolding loudStep
+  loud-leap n = λ j. leap-stops t n j || hasKey (key i (leap-arrival t n j)) ks
+
+  pub ticked : {r : ℕ} → r ≡ ticksBefore t s → QuietTicks ks i t r
+  unfolding endsQuiet
+  ticked {r} e =
+      record {
+        small = omega (arith, before-small t v s);
+        quiet = λ j l. calm j l (moves (leap t j)) refl;
+        exact = λ h. loud (omega arith);
+      }
+    where
+      calm : (j : ℕ) → j < r → (b : Bool) → moves (leap t j) ≡ b → (moves (leap t j) && loudStep ks i (leap t j)) ≡ false
+      calm j l true m =
+          rw m (loud-leap j ∙ q .quiet (stepsIn t j) (omega (arith, steps-suc t v j m, before-none t v s (suc j) (omega arith))))
+      calm j l false m = rw m refl
+
+      loud : ticksBefore t s < clockEnd → (moves (leap t r) && loudStep ks i (leap t r)) ≡ true
+      loud h =
+          rw e
+          (rw (before-moves t v s h)
+          (loud-leap (ticksBefore t s) ∙ ap (λ (k : ℕ). loudStep ks i (stride t k)) (before-made t v s h) ∙ q .exact (omega (arith, before-late t v s h))))

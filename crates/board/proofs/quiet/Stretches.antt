@@ -1,9 +1,9 @@
 -- Quiet ticks are a leap, and the tick after the longest leap writes a record, stops a track or changes a band, or behind it lies a tick in
--- which a track of a follower's pair leaves its line.
+-- which a track of a follower's pair leaves its line or the pair is at an edge.
 use Prim.Native.Nat.{ℕ, zero, suc, _+_, _/_, _%_, _≤_, _<_}
 use mathlib.Core.Path.{_≡_, refl, sym, ap, subst, _∙_}
 use mathlib.Core.Logic.{_⊎_, inl, inr, ⊎-elim}
-use mathlib.Core.Bool.{Bool, true, false, _||_, true≢false}
+use mathlib.Core.Bool.{Bool, true, false, _&&_, _||_, true≢false}
 use mathlib.Core.List.{List, [], _∷_, _++_}
 use native.Mathlib.Omega.{arith}
 use lib.ListN.{length, set, length-append}
@@ -11,25 +11,27 @@ use lib.Seq.{getD-at, set-at, append-snoc}
 use borrow.Author.Tests.{ne-eqb}
 use Rattle.track.specs.declared.Track.{Track}
 use Rattle.track.specs.Rule.{PLAYING, Valid}
-use Rattle.track.specs.Walk.{arrival, passesAt, stops, visited, step}
-use Rattle.track.specs.Leap.{leap}
+use Rattle.track.specs.Walk.{arrival, passesAt, stops}
+use Rattle.track.specs.Stride.{stride}
+use Rattle.track.specs.Leap.{moves, played, leap}
 use Rattle.track.specs.Follow.{judged}
-use Rattle.track.proofs.Leaps.{leap-zero, leap-suc, leap-valid}
+use Rattle.track.proofs.Tests.{cond-cases, both}
+use Rattle.track.proofs.Leaps.{leap-zero, leap-played, leap-valid}
 use Rattle.board.specs.declared.log.Record.{Record}
-use Rattle.board.specs.Points.{key, waits, trackCount}
+use Rattle.board.specs.Points.{key, infoAt, waits, trackCount}
 use Rattle.board.specs.Board.{noTrack, trackAt}
 use Rattle.board.specs.Tick.{keep, members}
 use Rattle.board.specs.Tick.{pointRecords, changeRecords, playBit, playingWord, Stage, staged, foundBy, stepRecords, reachedBy, stepMember, stepAll, runAll, playFrom, followWord, followAll, tickFrom}
 use Rattle.board.specs.Replay.{Each}
-use Rattle.board.specs.Steady.{SteadyFor, TurnsBackWithin, goes}
-use Rattle.board.specs.Quiet.{Some, NonzeroInfos, reaches, endsQuiet, QuietFor, masterOf, Fewest, Leapable, leapTracks}
+use Rattle.board.specs.Steady.{SteadyFor, PairLeaves, goes}
+use Rattle.board.specs.Quiet.{Some, NonzeroInfos, reaches, loudStep, stopsNext, endsQuiet, QuietFor, masterOf, Fewest, CanLeap, Leapable, leapTracks}
 use Rattle.board.proofs.points.Keys.{lt-or-ge}
 use Rattle.board.proofs.points.Table.{info-none}
 use Rattle.board.proofs.tick.Commands.{run-more}
 use Rattle.board.proofs.tick.Steps.{steps-more}
 use Rattle.board.proofs.follow.Following.{Still, follow-still, follow-adds}
 use Rattle.board.proofs.quiet.Players.{EachPlaying, SomePlaying, players, bit-plays, members-playing, longer, each-implies, each-both, each-playing, some-playing, some-member}
-use Rattle.board.proofs.quiet.Leaps.{leap-tracks-long, leap-tracks-word, leap-tracks-zero, leap-tracks-add, leapable-valid, each-leapt, some-leapt}
+use Rattle.board.proofs.quiet.Leaps.{leap-tracks-long, leap-tracks-word, leap-tracks-zero, leap-tracks-add, each-leapt, some-leapt}
 use Rattle.board.proofs.quiet.Bands.{leap-follow-word}
 use Rattle.board.proofs.quiet.Pairs.{Mastered, steady-still, unsteady-changes, all-or-one, some-either}
 
@@ -47,10 +49,15 @@ or-other : (a b : Bool) → a ≡ false → (a || b) ≡ true → b ≡ true
 or-other true b e h = absurd (true≢false e)
 or-other false b e h = h
 
--- a step that neither finds a wait flag nor stops the track is a leap of one
-step-quiet : (t : Track) → Valid t → stops t ≡ false → step t false ≡ leap t 1
-unfolding step
-step-quiet t v s = rw s (sym (leap-suc t v 0 ∙ ap (λ (u : Track). visited u (t .mode)) (leap-zero t v)))
+and-second : (a b : Bool) → (a && b) ≡ false → a ≡ true → b ≡ false
+and-second true b h e = h
+and-second false b h e = absurd (true≢false (sym e))
+
+-- a tick that neither finds a wait flag nor stops the track is a leap of one
+tick-quiet : (t : Track) → Valid t → (moves t ≡ true → stops t ≡ false) → played t false ≡ leap t 1
+tick-quiet t v s =
+    let z = leap-zero t v in
+    ap (λ (u : Track). played u false) (sym z) ∙ leap-played t v 0 (λ m. rw z (s (rw z at m)))
 
 -- a track that stays PLAYING writes no mode change
 changes-none : (clock i l passes : ℕ) (t : Track) {m : ℕ} → Valid t → t .mode ≡ PLAYING → m ≡ PLAYING → changeRecords clock i t m l passes ≡ []
@@ -58,26 +65,45 @@ unfolding changeRecords
 changes-none clock i l passes t v e em = rw (e, em) (rw (v .cells .playing) refl)
 
 module _ (ks ds : List ℕ) (clock : ℕ) where
-  -- what a step of track t, number i, leaves of a stage
+  -- what a tick of track t, number i, leaves of a stage
   abbrev after : ℕ → Stage → Track → Stage
   after i s t =
       let d = foundBy ks ds i t in
-      staged (set (s .tracks) i (step t (waits d))) (s .records ++ stepRecords clock i t d) (s .reached ++ reachedBy d)
+      staged (set (s .tracks) i (played t (waits d))) (s .records ++ stepRecords clock i t d) (s .reached ++ reachedBy d)
 
   member-is : (i : ℕ) (s : Stage) {t : Track} → trackAt (s .tracks) i ≡ t → stepMember ks ds clock i s ≡ after i s t
   unfolding stepMember
   member-is i s e = ap (after i s) e
 
-  -- a quiet step writes no record and reaches no point
+  module _ (i : ℕ) (t : Track) (q : endsQuiet ks i t ≡ false) where
+    -- a quiet tick does not stop the track, and finds no point
+    quiet-step : moves t ≡ true → (stops t || reaches ks i t) ≡ false
+    unfolding endsQuiet loudStep
+    quiet-step m = and-second (moves t) (stops t || reaches ks i t) q m
+
+    quiet-found : foundBy ks ds i t ≡ 0
+    unfolding foundBy
+    quiet-found =
+        cond-cases (λ (d : ℕ). d ≡ 0) (moves t)
+        (λ m. info-none (key i (arrival t)) ks ds (or-right (stops t) (reaches ks i t) (quiet-step m))) (λ _. refl)
+
+    quiet-leap : Valid t → played t false ≡ leap t 1
+    quiet-leap v = tick-quiet t v (λ m. or-left (stops t) (reaches ks i t) (quiet-step m))
+
+    -- and writes no record
+    quiet-records : Valid t → t .mode ≡ PLAYING → stepRecords clock i t 0 ≡ []
+    unfolding stepRecords pointRecords waits leap stride
+    quiet-records v e =
+        cond-cases (λ (rs : List Record). rs ≡ []) (moves t)
+        (λ _. changes-none clock i (arrival t) (passesAt t (arrival t)) t v e (ap (λ (u : Track). u .mode) (quiet-leap v) ∙ e)) (λ _. refl)
+
+  -- a quiet tick writes no record and reaches no point
   after-quiet : (i : ℕ) (us : List Track) (t : Track) → Valid t → t .mode ≡ PLAYING → endsQuiet ks i t ≡ false
       → after i (staged us [] []) t ≡ staged (set us i (leap t 1)) [] []
-  unfolding endsQuiet waits stepRecords pointRecords leap
+  unfolding waits
   after-quiet i us t v e q =
-      let s = or-left (stops t) (reaches ks i t) q in
-      let f = info-none (key i (arrival t)) ks ds (or-right (stops t) (reaches ks i t) q) in
-      let m = step-quiet t v s in
-      ap (λ (d : ℕ). staged (set us i (step t (waits d))) (stepRecords clock i t d) (reachedBy d)) f
-      ∙ (λ j. staged (set us i (m j)) (changes-none clock i (arrival t) (passesAt t (arrival t)) t v e (ap (λ (u : Track). u .mode) m ∙ e) j) [])
+      ap (λ (d : ℕ). staged (set us i (played t (waits d))) (stepRecords clock i t d) (reachedBy d)) (quiet-found i t q)
+      ∙ (λ j. staged (set us i (quiet-leap i t q v j)) (quiet-records i t q v e j) [])
 
   -- ---- a quiet tick
 
@@ -125,15 +151,16 @@ module _ (ks ds : List ℕ) (clock : ℕ) where
 
   module _ (tell : NonzeroInfos ks ds) where
     -- a step that reaches a point writes a record
-    point-written : (i : ℕ) (t : Track) → reaches ks i t ≡ true → 0 < length (stepRecords clock i t (foundBy ks ds i t))
-    unfolding NonzeroInfos stepRecords pointRecords
-    point-written i t h = rw (ne-eqb (foundBy ks ds i t) 0 (tell (key i (arrival t)) h)) (omega arith)
+    point-written : (i : ℕ) (t : Track) → moves t ≡ true → reaches ks i t ≡ true → 0 < length (stepRecords clock i t (foundBy ks ds i t))
+    unfolding NonzeroInfos stepRecords pointRecords foundBy
+    point-written i t m h = rw (m, ne-eqb (infoAt (key i (arrival t)) ks ds) 0 (tell (key i (arrival t)) h)) (omega arith)
 
-    ends-quiet-written : (i : ℕ) (s : Stage) {t : Track} → trackAt (s .tracks) i ≡ t → stops t ≡ false → endsQuiet ks i t ≡ true
+    ends-quiet-written : (i : ℕ) (s : Stage) {t : Track} → trackAt (s .tracks) i ≡ t → stopsNext t ≡ false → endsQuiet ks i t ≡ true
         → 0 < length (stepMember ks ds clock i s .records)
-    unfolding endsQuiet
+    unfolding endsQuiet loudStep stopsNext
     ends-quiet-written i s {t} e r h =
-        let w = point-written i t (or-other (stops t) (reaches ks i t) r h) in
+        let p = both (moves t) (stops t || reaches ks i t) h in
+        let w = point-written i t (p .0) (or-other (stops t) (reaches ks i t) (and-second (moves t) (stops t) r (p .0)) (p .1)) in
         rw (member-is i s e)
         (rw (length-append (s .records) (stepRecords clock i t (foundBy ks ds i t))) (omega arith))
 
@@ -141,7 +168,7 @@ module _ (ks ds : List ℕ) (clock : ℕ) where
     EndsQuiet n t = endsQuiet ks n t ≡ true
 
     abbrev Stops : ℕ → Track → Type 0
-    Stops n t = stops t ≡ true
+    Stops n t = stopsNext t ≡ true
 
     module _ (n present : ℕ) (pre : List Track) (t : Track) (ts : List Track) (l : length pre ≡ n) (rs : List Record) (qs : List ℕ)
         (ih : (y : Track) (rs : List Record) (qs : List ℕ) → SomePlaying EndsQuiet (suc n) (present / 2) ts
@@ -157,7 +184,7 @@ module _ (ks ds : List ℕ) (clock : ℕ) where
       Then d =
           (0 < length (stepAll ks ds clock (keep d n (players (suc n) (present / 2) ts)) stage .records)) ⊎ SomePlaying Stops n present (t ∷ ts)
 
-      ends-quiet-here : (d : ℕ) → 0 < playBit (present % 2) t → endsQuiet ks n t ≡ true → (b : Bool) → stops t ≡ b → Then (suc d)
+      ends-quiet-here : (d : ℕ) → 0 < playBit (present % 2) t → endsQuiet ks n t ≡ true → (b : Bool) → stopsNext t ≡ b → Then (suc d)
       unfolding SomePlaying stepAll
       ends-quiet-here d p h true e = inr (inl (p, e))
       ends-quiet-here d p h false e =
@@ -167,10 +194,10 @@ module _ (ks ds : List ℕ) (clock : ℕ) where
       ends-quiet-head : (d : ℕ) → playBit (present % 2) t ≡ d → SomePlaying EndsQuiet n present (t ∷ ts) → Then d
       unfolding SomePlaying stepAll
       ends-quiet-head zero e (inl a) = absurd (omega arith)
-      ends-quiet-head (suc d) e (inl a) = ends-quiet-here d (a .0) (a .1) (stops t) refl
+      ends-quiet-head (suc d) e (inl a) = ends-quiet-here d (a .0) (a .1) (stopsNext t) refl
       ends-quiet-head zero e (inr a) = ⊎-elim inl (λ b. inr (inr b)) (ih t rs qs a)
       ends-quiet-head (suc d) e (inr a) =
-          let y = step t (waits (foundBy ks ds n t)) in
+          let y = played t (waits (foundBy ks ds n t)) in
           let rs′ = rs ++ stepRecords clock n t (foundBy ks ds n t) in
           let qs′ = qs ++ reachedBy (foundBy ks ds n t) in
           let s : stepMember ks ds clock n stage ≡ staged (pre ++ y ∷ ts) rs′ qs′ =
@@ -200,7 +227,7 @@ module _ (ks ds : List ℕ) (clock : ℕ) where
 
 -- ---- the tracks of a list of numbers
 
--- one step more is quiet
+-- one tick more is quiet
 longer-quiet : (ks : List ℕ) (r : ℕ) (ts : List Track) (is : List ℕ) → Each (λ i. QuietFor ks r i (trackAt ts i)) is
     → Each (λ i. endsQuiet ks i (leap (trackAt ts i) r) ≡ false) is → Each (λ i. QuietFor ks (suc r) i (trackAt ts i)) is
 unfolding Each
@@ -234,9 +261,9 @@ module _ (ks ds : List ℕ) (present : ℕ) (ts : List Track) (l : length ts ≡
   Steady r = Each (λ i. SteadyFor r (trackAt ts i) (masterOf ts i)) (members led)
 
   quiet-playing : (r : ℕ) → Each (λ i. QuietFor ks r i (trackAt ts i)) (members word)
-      → EachPlaying (λ n t. Valid t × QuietFor ks r n t) 0 present ts
+      → EachPlaying (λ n t. CanLeap t × QuietFor ks r n t) 0 present ts
   quiet-playing r q =
-      each-both (λ n t. Valid t) (QuietFor ks r) 0 present ts (leapable-valid present ts l leapable) (each-playing (QuietFor ks r) present ts l q)
+      each-both (λ n t. CanLeap t) (QuietFor ks r) 0 present ts (each-playing (λ n t. CanLeap t) present ts l leapable) (each-playing (QuietFor ks r) present ts l q)
 
   -- the steps of r quiet ticks
   stretch-plays : (r : ℕ) → Each (λ i. QuietFor ks r i (trackAt ts i)) (members word) → (clock j : ℕ) → j < r
@@ -245,11 +272,11 @@ module _ (ks ds : List ℕ) (present : ℕ) (ts : List Track) (l : length ts ≡
       let e : j + 1 ≡ suc j = omega arith in
       play-list ks ds clock present (leapTracks j present ts) (leap-tracks-long j present ts ∙ l)
       (each-leapt (Calm ks ds clock) j 0 present ts
-      (each-implies (λ n t. Valid t × QuietFor ks r n t) (λ n t. Calm ks ds clock n (leap t j))
-      (λ n t p. (leap-valid t (p .0) j, p .1 j h)) 0 present ts (quiet-playing r q)))
+      (each-implies (λ n t. CanLeap t × QuietFor ks r n t) (λ n t. Calm ks ds clock n (leap t j))
+      (λ n t p. (leap-valid t (p .0 .valid) (λ e. omega (arith, p .0 .plays, e)) j, p .1 j h)) 0 present ts (quiet-playing r q)))
       ∙ ap (λ (us : List Track). staged us [] []) (leap-tracks-add present ts l leapable j 1 ∙ ap (λ (k : ℕ). leapTracks k present ts) e)
 
-  -- each of r quiet ticks writes no record, reaches no point, and is one step more of the leap
+  -- each of r quiet ticks writes no record, reaches no point, and is one tick more of the leap
   pub stretch-ticks : (r : ℕ) → Each (λ i. QuietFor ks r i (trackAt ts i)) (members word) → Steady r → (clock j : ℕ) → j < r
       → tickFrom ks ds clock present (leapTracks j present ts) ≡ staged (leapTracks (suc j) present ts) [] []
   unfolding tickFrom
@@ -258,7 +285,7 @@ module _ (ks ds : List ℕ) (present : ℕ) (ts : List Track) (l : length ts ≡
       ∙ follow-still clock (members led) (staged (leapTracks (suc j) present ts) [] [])
       (steady-still present ts r (suc j) (omega arith) h (members led) mastered s)
 
-  -- one quiet tick is a step of each
+  -- one quiet tick is a tick of each
   pub quiet-tick : (clock : ℕ) → Each (λ i. QuietFor ks 1 i (trackAt ts i)) (members word) → Steady 1
       → tickFrom ks ds clock present ts ≡ staged (leapTracks 1 present ts) [] []
   quiet-tick clock q s =
@@ -271,32 +298,32 @@ module _ (ks ds : List ℕ) (present : ℕ) (ts : List Track) (l : length ts ≡
     abbrev pub leapt : List Track
     leapt = leapTracks r present ts
 
-    abbrev pub played : Stage
-    played = playFrom ks ds clock present leapt
+    abbrev pub stepped : Stage
+    stepped = playFrom ks ds clock present leapt
 
     -- why they end: the next tick writes a record, a playing track stops in it, a follower's band changes in it, or in one of the ticks up to it
-    -- a track of a follower's pair leaves its line
+    -- a track of a follower's pair leaves its line or the pair is at an edge
     abbrev pub Ending : Type 0
     Ending =
         (0 < length (tickFrom ks ds clock present leapt .records))
-        ⊎ (Some (λ i. stops (trackAt leapt i) ≡ true) (members word)
-        ⊎ ((Each (Still (played .tracks)) (members led) → ⊥)
-        ⊎ Some (λ i. TurnsBackWithin (suc r) (trackAt ts i) (masterOf ts i)) (members led)))
+        ⊎ (Some (λ i. stopsNext (trackAt leapt i) ≡ true) (members word)
+        ⊎ ((Each (Still (stepped .tracks)) (members led) → ⊥)
+        ⊎ Some (λ i. PairLeaves (suc r) (trackAt ts i) (masterOf ts i)) (members led)))
 
     -- the third part takes no record back
-    play-written : 0 < length (played .records) → 0 < length (tickFrom ks ds clock present leapt .records)
+    play-written : 0 < length (stepped .records) → 0 < length (tickFrom ks ds clock present leapt .records)
     unfolding tickFrom
-    play-written h = omega (arith, follow-adds clock (members (followWord present leapt)) played)
+    play-written h = omega (arith, follow-adds clock (members (followWord present leapt)) stepped)
 
     module _ (tell : NonzeroInfos ks ds) where
-      -- a step ends the quiet
+      -- a loud step is made
       loud-ending : Some (λ i. endsQuiet ks i (leap (trackAt ts i) r) ≡ true) (members word) → Ending
       loud-ending s =
           let ls = leap-tracks-long r present ts ∙ l in
           ⊎-elim (λ w. inl (play-written w))
           (λ s.
           inr (inl
-          (rw (leap-tracks-word r present ts) at (some-member (λ n t. stops t ≡ true) present leapt ls s))))
+          (rw (leap-tracks-word r present ts) at (some-member (λ n t. stopsNext t ≡ true) present leapt ls s))))
           (play-ends-quiet ks ds clock tell present leapt ls
           (some-leapt (λ n t. endsQuiet ks n t ≡ true) r 0 present ts (some-playing (λ n t. endsQuiet ks n (leap t r) ≡ true) present ts l s)))
 

@@ -11,7 +11,7 @@ use Rattle.track.specs.Leap.{leap}
 use Rattle.board.specs.Board.{trackAt}
 use Rattle.board.specs.Replay.{Each}
 use Rattle.board.specs.Steady.{Steadies}
-use Rattle.board.specs.Quiet.{Some, QuietFor, QuietSteps, masterOf, Fewest, WithMaster, CanLeap, Leapable, leapInto}
+use Rattle.board.specs.Quiet.{Some, QuietFor, QuietTicks, masterOf, Fewest, WithMaster, CanLeap, Leapable, leapInto}
 use Rattle.board.proofs.points.Keys.{lt-or-ge}
 
 module _ (ts : List Track) (ms is : List ℕ) (i : ℕ) (e : ms ≡ i ∷ is) where
@@ -25,8 +25,8 @@ module _ (ts : List Track) (ms is : List ℕ) (i : ℕ) (e : ms ≡ i ∷ is) wh
   unfolding Each
   pairs-next a = rw e at a
 
-  -- what is the fewest for the others, taken from the lesser of a bound and the steps of the first, is the fewest for all
-  pub fewest-next : (ks fs : List ℕ) (a q : ℕ) {b : ℕ} (r : ℕ) → a ≤ clockEnd → QuietSteps ks i (trackAt ts i) q → b ≡ min a q
+  -- what is the fewest for the others, taken from the lesser of a bound and the ticks of the first, is the fewest for all
+  pub fewest-next : (ks fs : List ℕ) (a q : ℕ) {b : ℕ} (r : ℕ) → a ≤ clockEnd → QuietTicks ks i (trackAt ts i) q → b ≡ min a q
       → Fewest ks ts is fs b r → Fewest ks ts ms fs a r
   unfolding Each Some
   fewest-next ks fs a q {b} r ha s eb f =

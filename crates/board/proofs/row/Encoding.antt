@@ -23,7 +23,8 @@ use Rattle.track.specs.Number.{naturalOf, cappedOf, onNatural, valueOf, coordin
 use Rattle.track.specs.declared.Coordinate.{Coordinate}
 use Rattle.track.proofs.Numbers.{natural-in, natural-of, capped-in, coordinate-at, back}
 use Rattle.board.specs.Log.{writeAt}
-use Rattle.board.specs.Row.{replyWidth, callFrom, callOf, plainAt, rowNumber, pairsFrom, pairsIn, masterCode, isCode, masterCall, masterIn, callAt, padded, trackNumbers, pointNumbers, cellsAt, masterAt, thresholdsAt, eventsAt}
+use Rattle.board.specs.Row.{replyWidth, callFrom, callOf, plainAt, rowNumber, pairsFrom, pairsIn, masterCode, isCode, masterCall, masterIn, callAt, padded, trackNumbers, pointNumbers, cellsAt, masterAt, thresholdsAt, eventsAt, rateAt}
+use Rattle.board.specs.Setup.{rowOf}
 use Rattle.board.specs.Call.{TrackValues, trackValues, pointValues}
 use Rattle.board.specs.declared.points.Point.{Point}
 use Rattle.board.specs.declared.call.Call.the-variants as call
@@ -34,8 +35,8 @@ use Rattle.board.proofs.tick.Staging.{write-byte}
 
 -- ---- the call of a row
 
--- above 20 there is no call
-no-code : (n : ℕ) (a b c d e f : ℤ) → 20 < n → callFrom n a b c d e f ≡ none
+-- above 22 there is no call
+no-code : (n : ℕ) (a b c d e f : ℤ) → 22 < n → callFrom n a b c d e f ≡ none
 no-code n a b c d e f h =
     simp (
       ne-eqb n 1 (omega arith),
@@ -58,23 +59,24 @@ no-code n a b c d e f h =
       ne-eqb n 18 (omega arith),
       ne-eqb n 19 (omega arith),
       ne-eqb n 20 (omega arith),
+      ne-eqb n 22 (omega arith),
     )
 
--- a number outside 1 to 20 is the code of no call
-pub code-out : (z : ℤ) (a b c d e f : ℤ) → naturalOf z 1 20 ≡ natural.Outside → none ≡ callOf z a b c d e f
+-- a number outside 1 to 22 is the code of no call
+pub code-out : (z : ℤ) (a b c d e f : ℤ) → naturalOf z 1 22 ≡ natural.Outside → none ≡ callOf z a b c d e f
 code-out (negsuc k) a b c d e f h = refl
-code-out (pos k) a b c d e f h = go (leb k 20) (leb 1 k) refl refl
+code-out (pos k) a b c d e f h = go (leb k 22) (leb 1 k) refl refl
   where
-    go : (s t : Bool) → leb k 20 ≡ s → leb 1 k ≡ t → none ≡ callFrom k a b c d e f
+    go : (s t : Bool) → leb k 22 ≡ s → leb 1 k ≡ t → none ≡ callFrom k a b c d e f
     go false t p q = sym (no-code k a b c d e f (leb-false _ _ p))
     go true false p q = let z : 0 ≡ k = omega (arith, leb-false 1 k q) in ap (λ (n : ℕ). callFrom n a b c d e f) z
     go true true p q =
         ap (λ (n : Natural). onNatural n (λ j. callFrom j a b c d e f) none)
-        (sym h ∙ natural-of k 1 20 (leb-true _ _ q) (leb-true _ _ p))
+        (sym h ∙ natural-of k 1 22 (leb-true _ _ q) (leb-true _ _ p))
 
 -- and one within is that code
-pub code-in : (z : ℤ) {n : ℕ} (a b c d e f : ℤ) → naturalOf z 1 20 ≡ natural.In n → callFrom n a b c d e f ≡ callOf z a b c d e f
-code-in z a b c d e f h = sym (ap (λ (y : ℤ). callOf y a b c d e f) (natural-in z 1 20 h .0))
+pub code-in : (z : ℤ) {n : ℕ} (a b c d e f : ℤ) → naturalOf z 1 22 ≡ natural.In n → callFrom n a b c d e f ≡ callOf z a b c d e f
+code-in z a b c d e f h = sym (ap (λ (y : ℤ). callOf y a b c d e f) (natural-in z 1 22 h .0))
 
 -- the codes 1 to k, one after the other, are not n
 abbrev pub NoneTo : ℕ → ℕ → Type 0
@@ -193,6 +195,15 @@ module _ (zs : List ℤ) (k : ℕ) where
 pub all-written : (row xs : List ℕ) (at n : ℕ) → length xs ≡ n → writeAt row at (take n xs) ≡ writeAt row at xs
 all-written row xs at n l = ap (writeAt row at) (take-all n xs (omega (arith, l)))
 
+-- a row of four is its four numbers
+pub four-listed : (xs : List ℕ) → length xs ≡ thresholdCount → rowOf xs ≡ xs
+four-listed [] h = absurd (omega arith)
+four-listed (a ∷ []) h = absurd (omega arith)
+four-listed (a ∷ b ∷ []) h = absurd (omega arith)
+four-listed (a ∷ b ∷ c ∷ []) h = absurd (omega arith)
+four-listed (a ∷ b ∷ c ∷ d ∷ []) h = refl
+four-listed (a ∷ b ∷ c ∷ d ∷ e ∷ xs) h = absurd (omega arith)
+
 -- two stores are a write of two
 pub two-written : (row : List ℕ) (at a b : ℕ) → at + 2 ≤ length row → set (set row at a) (at + 1) b ≡ writeAt row at (a ∷ b ∷ [])
 two-written row at a b h =
@@ -214,7 +225,7 @@ pub track-coordinates : (t : Track) →
     ∷ t .direction
     ∷ t .repeat
     ∷ t .due
-    ∷ t .actions ++ (t .master ∷ t .band ∷ t .thresholds ++ t .events)
+    ∷ t .actions ++ (t .master ∷ t .band ∷ t .thresholds ++ (t .events ++ (t .steps ∷ t .ticks ∷ t .remainder ∷ [])))
     ≡ trackNumbers (trackValues t)
 track-coordinates t =
     λ i. at (t .min) i
@@ -228,7 +239,7 @@ track-coordinates t =
     ∷ t .direction
     ∷ t .repeat
     ∷ t .due
-    ∷ t .actions ++ (t .master ∷ t .band ∷ t .thresholds ++ t .events)
+    ∷ t .actions ++ (t .master ∷ t .band ∷ t .thresholds ++ (t .events ++ (t .steps ∷ t .ticks ∷ t .remainder ∷ [])))
   where
     at : (c : Coordinate) → c .0 ≡ coordinateAt (valueOf c) .0
     at c = ap (λ (d : Coordinate). d .0) (sym (coordinate-at c))
@@ -237,32 +248,49 @@ pub point-coordinate : (p : Point) →
     p .track ∷ p .position .0 ∷ p .event ∷ p .wait ∷ p .command ∷ p .target ∷ [] ≡ pointNumbers (pointValues p)
 point-coordinate p = λ i. p .track ∷ sym (coordinate-at (p .position)) i .0 ∷ p .event ∷ p .wait ∷ p .command ∷ p .target ∷ []
 
--- the row of a track: its cells written behind its head, its master and band behind these, then its thresholds and their events
+-- three stores are a write of three
+pub three-written : (row : List ℕ) (at a b c : ℕ) → at + 3 ≤ length row → set (set (set row at a) (at + 1) b) (at + 2) c ≡ writeAt row at (a ∷ b ∷ c ∷ [])
+three-written row at a b c h =
+    let l : length (set (set row at a) (at + 1) b) ≡ length row = length-set (set row at a) (at + 1) b ∙ length-set row at a in
+    write-byte (set (set row at a) (at + 1) b) (at + 2) c (omega arith)
+    ∙ ap (λ (r : List ℕ). writeAt r (at + 2) (c ∷ [])) (two-written row at a b (omega arith))
+    ∙ write-write row (a ∷ b ∷ []) (c ∷ []) at (at + 2) refl (omega arith)
+
+-- the row of a track: its cells written behind its head, its master and band behind these, then its thresholds, their events and its rate
 pub track-numbers : (t : TrackValues) → length (t .actions) ≡ cellCount → length (t .thresholds) ≡ thresholdCount → length (t .events) ≡ thresholdCount →
     writeAt
+    (writeAt
     (writeAt (writeAt (writeAt (padded (6 ∷ take 11 (trackNumbers t))) cellsAt (t .actions)) masterAt (t .master ∷ t .band ∷ [])) thresholdsAt (t .thresholds))
-    eventsAt (t .events)
+    eventsAt (t .events))
+    rateAt (t .steps ∷ t .ticks ∷ t .remainder ∷ [])
     ≡ padded (6 ∷ trackNumbers t)
 unfolding writeAt
 track-numbers t l m n =
     let zeros : List ℕ = replicate replyWidth 0 in
     let head : List ℕ = 6 ∷ take 11 (trackNumbers t) in
     let named : List ℕ = t .master ∷ t .band ∷ [] in
+    let rate : List ℕ = t .steps ∷ t .ticks ∷ t .remainder ∷ [] in
     let one : List ℕ = head ++ t .actions in
     let two : List ℕ = one ++ named in
     let three : List ℕ = two ++ t .thresholds in
+    let four : List ℕ = three ++ t .events in
     let a : length one ≡ masterAt = omega (arith, l) in
     let b : length two ≡ thresholdsAt = simp length-append (omega (arith, a)) in
     let c : length three ≡ eventsAt = simp length-append (omega (arith, b, m)) in
-    let d : length (6 ∷ trackNumbers t) ≡ 38 = simp length-append (omega (arith, l, m, n)) in
-    ap (λ (r : List ℕ). writeAt (writeAt (writeAt r masterAt named) thresholdsAt (t .thresholds)) eventsAt (t .events))
+    let e : length four ≡ rateAt = simp length-append (omega (arith, c, n)) in
+    let d : length (6 ∷ trackNumbers t) ≡ 41 = simp length-append (omega (arith, l, m, n)) in
+    ap (λ (r : List ℕ). writeAt (writeAt (writeAt (writeAt r masterAt named) thresholdsAt (t .thresholds)) eventsAt (t .events)) rateAt rate)
     (write-write zeros head (t .actions) 0 cellsAt refl (omega (arith, l)))
-    ∙ ap (λ (r : List ℕ). writeAt (writeAt r thresholdsAt (t .thresholds)) eventsAt (t .events)) (write-write zeros one named 0 masterAt (sym a ∙ sym (zero-add _)) (omega arith))
-    ∙ ap (λ (r : List ℕ). writeAt r eventsAt (t .events)) (write-write zeros two (t .thresholds) 0 thresholdsAt (sym b ∙ sym (zero-add _)) (omega (arith, m)))
-    ∙ write-write zeros three (t .events) 0 eventsAt (sym c ∙ sym (zero-add _)) (omega (arith, n))
+    ∙ ap (λ (r : List ℕ). writeAt (writeAt (writeAt r thresholdsAt (t .thresholds)) eventsAt (t .events)) rateAt rate)
+    (write-write zeros one named 0 masterAt (sym a ∙ sym (zero-add _)) (omega arith))
+    ∙ ap (λ (r : List ℕ). writeAt (writeAt r eventsAt (t .events)) rateAt rate)
+    (write-write zeros two (t .thresholds) 0 thresholdsAt (sym b ∙ sym (zero-add _)) (omega (arith, m)))
+    ∙ ap (λ (r : List ℕ). writeAt r rateAt rate) (write-write zeros three (t .events) 0 eventsAt (sym c ∙ sym (zero-add _)) (omega (arith, n)))
+    ∙ write-write zeros four rate 0 rateAt (sym e ∙ sym (zero-add _)) (omega arith)
     ∙ ap (writeAt zeros 0)
-    (append-assoc two (t .thresholds) (t .events)
-    ∙ append-assoc one named (t .thresholds ++ t .events)
-    ∙ append-assoc head (t .actions) (named ++ (t .thresholds ++ t .events)))
+    (append-assoc three (t .events) rate
+    ∙ append-assoc two (t .thresholds) (t .events ++ rate)
+    ∙ append-assoc one named (t .thresholds ++ (t .events ++ rate))
+    ∙ append-assoc head (t .actions) (named ++ (t .thresholds ++ (t .events ++ rate))))
     ∙ ap (λ (k : ℕ). (6 ∷ trackNumbers t) ++ drop k zeros) (zero-add _ ∙ d)
     ∙ sym (ap (λ (k : ℕ). (6 ∷ trackNumbers t) ++ replicate (replyWidth - k) 0) d)

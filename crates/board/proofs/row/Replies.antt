@@ -2,7 +2,7 @@
 use Prim.Native.Nat.{ℕ}
 use mathlib.Core.Path.{_≡_, refl, sym, _∙_, ap, subst}
 use mathlib.Core.Bool.{cond}
-use mathlib.Core.List.{List, _∷_, _++_, append-assoc}
+use mathlib.Core.List.{List, [], _∷_, _++_, append-assoc}
 use lib.Dec.{eqb}
 use lib.ListN.{length, take, drop, getD}
 use lib.Seq.{take-at, drop-at}
@@ -17,6 +17,10 @@ use Rattle.board.proofs.row.Encoding.{track-coordinates, point-coordina
 -- what a row's numbers say behind a track's cells
 abbrev behindCells : List ℕ → List ℕ
 behindCells xs = drop cellCount (drop cellsAt xs)
+
+-- and behind the events of its thresholds
+abbrev behindEvents : List ℕ → List ℕ
+behindEvents xs = drop thresholdCount (drop thresholdCount (drop 2 (behindCells xs)))
 
 -- the track and the point that a row's numbers say
 abbrev trackIn : List ℕ → Track
@@ -38,6 +42,9 @@ trackIn xs =
       band = getD (behindCells xs) 1 0;
       thresholds = take thresholdCount (drop 2 (behindCells xs));
       events = take thresholdCount (drop thresholdCount (drop 2 (behindCells xs)));
+      steps = getD (behindEvents xs) 0 0;
+      ticks = getD (behindEvents xs) 1 0;
+      remainder = getD (behindEvents xs) 2 0;
     }
 
 abbrev pointIn : List ℕ → Point
@@ -81,22 +88,24 @@ Told (pointIs v) = (p : Point) × (v ≡ pointValues p)
 Told (countIs n) = Unit {0}
 
 -- what stands behind the head of a track's row, the zeros at its end among it
-behind : (cells ths evs rest : List ℕ) (m k : ℕ) →
-    (cells ++ (m ∷ k ∷ ths ++ evs)) ++ rest ≡ cells ++ (m ∷ k ∷ ths ++ (evs ++ rest))
-behind cells ths evs rest m k =
-    append-assoc cells (m ∷ k ∷ ths ++ evs) rest ∙ ap (λ (r : List ℕ). cells ++ (m ∷ k ∷ r)) (append-assoc ths evs rest)
+behind : (cells ths evs rate rest : List ℕ) (m k : ℕ) →
+    (cells ++ (m ∷ k ∷ ths ++ (evs ++ rate))) ++ rest ≡ cells ++ (m ∷ k ∷ ths ++ (evs ++ (rate ++ rest)))
+behind cells ths evs rate rest m k =
+    append-assoc cells (m ∷ k ∷ ths ++ (evs ++ rate)) rest
+    ∙ ap (λ (r : List ℕ). cells ++ (m ∷ k ∷ r)) (append-assoc ths (evs ++ rate) rest ∙ ap (λ (r : List ℕ). ths ++ r) (append-assoc evs rate rest))
 
 track-back : (t : Track) → Whole t → replyIn (numbersOf (trackIs (trackValues t))) ≡ trackIs (trackValues t)
 unfolding replyIn
 track-back t h =
     ap (λ (ns : List ℕ). replyIn (padded (6 ∷ ns))) (sym (track-coordinates t))
     ∙ rw (
-      behind (t .actions) (t .thresholds) (t .events) _ (t .master) (t .band),
+      behind (t .actions) (t .thresholds) (t .events) (t .steps ∷ t .ticks ∷ t .remainder ∷ []) _ (t .master) (t .band),
       take-at (t .actions) _ cellCount (h .0),
       drop-at (t .actions) _ cellCount (h .0),
       take-at (t .thresholds) _ thresholdCount (h .1),
       drop-at (t .thresholds) _ thresholdCount (h .1),
       take-at (t .events) _ thresholdCount (h .2),
+      drop-at (t .events) _ thresholdCount (h .2),
     )
 
 point-back : (p : Point) → replyIn (numbersOf (pointIs (pointValues p))) ≡ pointIs (pointValues p)

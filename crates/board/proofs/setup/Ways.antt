@@ -19,10 +19,10 @@ use Rattle.track.specs.declared.setup.Answer.the-variants.{Refused}
 use Rattle.track.specs.declared.setup.Change.{Change}
 use Rattle.track.specs.declared.setup.Change.the-variants as change
 use Rattle.track.specs.declared.setup.Changed.{Changed}
-use Rattle.track.specs.Rule.{STOPPED, coordinateLast, newTrack}
+use Rattle.track.specs.Rule.{STOPPED, coordinateLast, rateMost, newTrack}
 use Rattle.track.specs.Follow.{following}
 use Rattle.track.specs.Number.{naturalOf, coordinateOf, within, onNatural, onPlace}
-use Rattle.track.specs.Setup.{settled, permits, startSet, endSet, loopsSet, repeatSet, directionSet, actionSet, jumpTo, setBy, changedBy}
+use Rattle.track.specs.Setup.{settled, permits, startSet, endSet, loopsSet, repeatSet, directionSet, actionSet, jumpTo, rateSet, setBy, changedBy}
 use Rattle.track.proofs.Tests.{cond-cases, both}
 use Rattle.track.proofs.Numbers.{natural-in, value-coordinate}
 use Rattle.board.specs.declared.Board.{Board}
@@ -148,7 +148,7 @@ set-master-refused b track master zs {n} =
 
 -- a change that is refused leaves the track equal
 pub changed-refused : (t : Track) (c : Change) {n : ℕ} → changedBy t c .answer ≡ Refused n → changedBy t c .track ≡ t
-unfolding changedBy setBy startSet endSet loopsSet repeatSet directionSet actionSet jumpTo
+unfolding changedBy setBy startSet endSet loopsSet repeatSet directionSet actionSet jumpTo rateSet
 changed-refused t c {n} = cond-cases Kept (permits c (t .mode)) (λ _. by c) (λ _ e. refl)
   where
     Kept : Changed → Type 0
@@ -170,3 +170,7 @@ changed-refused t c {n} = cond-cases Kept (permits c (t .mode)) (λ _. by c) (λ
         (λ y _. by-natural Kept (naturalOf event 0 255) _ _
         (λ _ _. cond-cases Kept (eqb x y) (λ _ e. refl) (λ _ e. cc)) (λ e. refl)) (λ e. refl)) (λ e. refl)
     by (change.Jump p) = by-place Kept (within (t .start .0) (t .end .0) (coordinateOf p)) _ _ (λ _ _ e. cc) (λ e. refl)
+    by (change.Rate p q) =
+        by-natural Kept (naturalOf p 1 rateMost) _ _
+        (λ x _. by-natural Kept (naturalOf q 1 rateMost) _ _
+        (λ y _. cond-cases Kept (ltb y x) (λ _ e. refl) (λ _ e. cc)) (λ e. refl)) (λ e. refl)

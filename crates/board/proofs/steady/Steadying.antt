@@ -1,130 +1,76 @@
--- A follower and its master in quiet ticks: where they are then, and how long the band stays.
-use Prim.Native.Nat.{ℕ, zero, suc, _+_, _-_, _*_, _%_, _≤_, _<_, min, max}
+-- A follower and its master in quiet ticks: how long the band stays.
+use Prim.Native.Nat.{ℕ, suc, _+_, _*_, _≤_, _<_, min, max}
 use mathlib.Core.Path.{_≡_, refl, sym, ap, ap₂, subst, _∙_}
 use mathlib.Core.Logic.{_⊎_, inl, inr, ⊎-elim}
-use mathlib.Core.Bool.{Bool, true, false, cond, _||_}
+use mathlib.Core.Bool.{Bool, true, false, cond, _||_, false≢true}
 use mathlib.Core.List.{List}
-use native.Mathlib.Nat.{mod-lt, mod-eq-of-lt, mul-one, mul-zero, add-zero}
+use native.Mathlib.Nat.{mul-zero, mul-le-mul-right, mul-div-left}
 use native.Mathlib.Omega.{arith}
 use lib.Dec.{eqb}
 use lib.ListN.{length}
 use borrow.Author.Tests.{eq-eqb, ne-eqb}
 use Rattle.track.specs.declared.Track.{Track}
-use Rattle.track.specs.Rule.{STOPPED, PLAYING, clockEnd, coordinateLast, backward, isDue, Valid}
-use Rattle.track.specs.Walk.{arrival}
-use Rattle.track.specs.Leap.{span, phase, place, next, leap}
-use Rattle.track.specs.Follow.{distance, thresholdsOf, upToZero, bandOf, lowOf, highOf, judged, pairsTest}
-use Rattle.track.proofs.Tests.{cond-cases}
-use Rattle.track.proofs.Arrivals.{place-inside}
-use Rattle.track.proofs.Leaps.{leap-valid, leap-zero, phase-small, phase-of}
+use Rattle.track.specs.Rule.{STOPPED, clockEnd, isDue, Valid}
+use Rattle.track.specs.Stride.{span}
+use Rattle.track.specs.Follow.{distance, thresholdsOf, upToZero, bandOf, lowOf, highOf, judged, apart, pairsTest}
+use Rattle.track.proofs.Tests.{refuted}
 use Rattle.board.specs.Stay.{Between, Stays, Rounds}
-use Rattle.board.specs.Steady.{isPlaying, goes, straight, pace, least, width, turnsBack, driftAfter, Drifts, TurnsBackWithin, Holds, Steadies}
-use Rattle.board.proofs.steady.Going.{goes-on, goes-mode, goes-thresholds}
+use Rattle.board.specs.Steady.{
+  isPlaying,
+  goes,
+  straight,
+  still,
+  fine,
+  pace,
+  least,
+  width,
+  driftAfter,
+  driftInRange,
+  fineInRange,
+  Drifts,
+  LeavesWithin,
+  Holds,
+  Steadies,
+}
+use Rattle.board.proofs.steady.Going.{goes-mode, goes-thresholds, goes-ticks, goes-next}
+use Rattle.board.proofs.steady.Lines.{fine-line, line-at, any-at, still-small, still-at, round-at, straight-turns, goes-small}
+use Rattle.board.proofs.steady.Edges.{in-range-is, fine-in-range, edge-is}
 use Rattle.board.proofs.stay.Staying.{between-apart, apart-between}
+use Rattle.board.proofs.stay.Fine.{fine-apart, scaled-apart, scaled-rounds}
 use Rattle.board.proofs.stay.Rounding.{lt-or}
 use Rattle.board.proofs.stay.Bands.{band-is, band-within, pairs-rising}
 
--- ---- where a track is after n ticks
-
-module _ (t : Track) (v : Valid t) where
-  pub here : distance t < span t
-  here = phase-small t v (t .position .0) (v .ordered .above) (v .ordered .below)
-
-  far-place : (k : ℕ) → k < span t → phase t (place t k) ≡ k
-  far-place k h =
-      let i = place-inside t v k h in
-      sym (phase-of t v (place t k) (i .0) (i .1) k h refl)
-
-  -- anywhere on its span
-  leap-any : (n : ℕ) → distance (leap t n) < span t
-  unfolding leap
-  leap-any n =
-      phase-small (leap t n) (leap-valid t v n) (leap t n .position .0) (leap-valid t v n .ordered .above)
-      (leap-valid t v n .ordered .below)
-
-  -- round its span
-  leap-round : (n : ℕ) → distance (leap t (suc n)) ≡ (next t + n) % span t
-  unfolding leap
-  leap-round n = far-place ((next t + n) % span t) (mod-lt (next t + n) (omega arith))
-
-  -- one further in each tick, until it turns
-  module _ (visited : isDue t ≡ false) where
-    next-on : distance t + 1 < span t → next t ≡ distance t + 1
-    unfolding next arrival
-    next-on h = go (backward t) refl
-      where
-        go : (b : Bool) → backward t ≡ b → next t ≡ distance t + 1
-        go true e =
-            simp (visited, e, ne-eqb (t .position .0) (t .start .0) (λ q. omega (arith, simp e at h)))
-            (omega (arith, simp e at h, v .ordered))
-        go false e =
-            simp (visited, e, ne-eqb (t .position .0) (t .end .0) (λ q. omega (arith, simp e at h)))
-            (omega (arith, simp e at h, v .ordered))
-
-    leap-straight : (n : ℕ) → distance t + n < span t → distance (leap t n) ≡ distance t + n
-    unfolding leap
-    leap-straight zero h = sym (add-zero (distance t))
-    leap-straight (suc n) h =
-        let e = next-on (omega arith) in
-        let m : (next t + n) % span t ≡ distance t + suc n =
-        ap (λ (k : ℕ). (k + n) % span t) e ∙ mod-eq-of-lt {n = distance t + 1 + n} (omega arith) ∙ omega arith in
-        ap (λ (k : ℕ). phase t (place t k)) m ∙ far-place (distance t + suc n) h
-
-straight-at : (t : Track) → Valid t → (n : ℕ) → n ≤ straight t → distance (goes n t) ≡ distance t + n * pace t
-unfolding straight pace goes leap
-straight-at t v n = go (isPlaying t) (isDue t) refl
-  where
-    go : (b d : Bool) → isDue t ≡ d → n ≤ cond b (cond d 0 (span t - 1 - distance t)) clockEnd
-        → distance (cond b (leap t n) t) ≡ distance t + n * cond b 1 0
-    go false d e h = omega (arith, mul-zero n)
-    go true true e h =
-        let z : n ≡ 0 = omega arith in
-        ap distance (ap (leap t) z ∙ leap-zero t v) ∙ omega (arith, mul-one n)
-    go true false e h = let l = here t v in leap-straight t v e n (omega arith) ∙ omega (arith, mul-one n)
-
-any-at : (t : Track) → Valid t → (n : ℕ) → (least t ≤ distance (goes n t)) × (distance (goes n t) ≤ least t + width t)
-unfolding least width goes
-any-at t v n = go (isPlaying t)
-  where
-    go : (b : Bool)
-        → (cond b 0 (distance t) ≤ distance (cond b (leap t n) t))
-        × (distance (cond b (leap t n) t) ≤ cond b 0 (distance t) + cond b (span t - 1) 0)
-    go true = let l = leap-any t v n in omega arith
-    go false = omega arith
-
--- when the ticks of its line are over, its next step leaves it
-straight-turns : (t : Track) → Valid t → straight t < clockEnd → turnsBack (goes (straight t) t) ≡ true
-unfolding straight turnsBack goes leap
-straight-turns t v = go (isPlaying t) (isDue t) refl refl
-  where
-    go : (b d : Bool) → isPlaying t ≡ b → isDue t ≡ d → cond b (cond d 0 (span t - 1 - distance t)) clockEnd < clockEnd
-        → turnsBack (cond b (leap t (cond b (cond d 0 (span t - 1 - distance t)) clockEnd)) t) ≡ true
-    go false d eb ed h = absurd (omega arith)
-    go true true eb ed h = ap turnsBack (leap-zero t v) ∙ simp (eb, ed)
-    go true false eb ed h =
-        let l = here t v in
-        let n = span t - 1 - distance t in
-        let e = leap-straight t v ed n (omega arith) in
-        simp eb (last (isDue (leap t n)) (eqb (distance (leap t n) + 1) (span t)) (eq-eqb (distance (leap t n) + 1) (span t) (omega arith)))
-      where
-        last : (a b : Bool) → b ≡ true → (a || b) ≡ true
-        last true b e = refl
-        last false b e = e
-
 -- ---- the stretches
 
+-- n ticks of a line, counted in other parts
+spread : (r x g k : ℕ) → x * k + suc r * (g * k) ≡ (x + suc r * g) * k
+spread r x g k = omega arith
+
 module _ (t m : Track) (vt : Valid t) (vm : Valid m) (lo hi : ℕ) where
+  some : 0 < t .ticks
+  some = omega (arith, vt .rate)
+
+  some-master : 0 < m .ticks
+  some-master = omega (arith, vm .rate)
+
+  abbrev Inside : ℕ → Type 0
+  Inside n = (lo ≤ driftAfter n t m) × (driftAfter n t m ≤ hi)
+
+  -- the parts of both, n ticks on: the places that a line tells
+  abbrev Lined : ℕ → Type 0
+  Lined s =
+      Stays (fine t * m .ticks) (fine m * t .ticks) 0 (pace t * m .ticks) (pace m * t .ticks) (lo * (t .ticks * m .ticks)) (hi * (t .ticks * m .ticks)) s
+
   -- each on its line
-  line-within : (s r : ℕ) → Stays (distance t) (distance m) 0 (pace t) (pace m) lo hi s → r ≤ s → r ≤ straight t
-      → r ≤ straight m → Drifts lo hi t m r
-  line-within s r f rs rt rm =
-      record {
-        small = omega (arith, f .small);
-        within = λ n p l.
-            let a = straight-at t vt n (omega arith) in
-            let b = straight-at m vm n (omega arith) in
-            between-apart _ _ _ _ _ (distance (goes n t)) (distance (goes n m)) (record { least = omega arith; most = omega arith }) (f .within n p (omega arith));
-      }
+  line-within : (s r : ℕ) → Lined s → r ≤ s → r ≤ straight t → r ≤ straight m → Drifts lo hi t m r
+  line-within s r f rs rt rm = record { small = omega (arith, f .small); within = λ n p l. go n p l }
+    where
+      go : (n : ℕ) → 0 < n → n ≤ r → Inside n
+      go n p l =
+          let g = between-apart _ _ _ _ _ ((fine t + n * pace t) * m .ticks) ((fine m + n * pace m) * t .ticks)
+          (record { least = omega arith; most = omega arith }) (f .within n p (omega arith)) in
+          rw (line-at t vt n (omega arith), line-at m vm n (omega arith))
+          (scaled-apart (t .ticks) (m .ticks) some some-master lo hi (fine t + n * pace t) (fine m + n * pace m) (g .0) (g .1))
 
   -- each anywhere on its span
   pub any-within : (r : ℕ) → Stays (least t) (least m + width m) (width t + width m) 0 0 lo hi r → Drifts lo hi t m r
@@ -139,51 +85,83 @@ module _ (t m : Track) (vt : Valid t) (vm : Valid m) (lo hi : ℕ) where
       }
 
   -- the first on its line, the second anywhere on its span
-  pub first-within : (s r : ℕ) → Stays (distance t) (least m + width m) (width m) (pace t) 0 lo hi s → r ≡ min s (straight t) → Drifts lo hi t m r
-  first-within s r f e =
-      record {
-        small = omega (arith, f .small);
-        within = λ n p l.
-            let a = straight-at t vt n (omega arith) in
-            let b = any-at m vm n in
-            let z = mul-zero n in
-            between-apart _ _ _ _ _ (distance (goes n t)) (distance (goes n m)) (record { least = omega arith; most = omega arith }) (f .within n p (omega arith));
-      }
+  pub first-within : (s r : ℕ)
+      → Stays (fine t) ((least m + width m) * t .ticks) (width m * t .ticks) (pace t) 0 (lo * t .ticks) (hi * t .ticks) s
+      → r ≡ min s (straight t) → Drifts lo hi t m r
+  first-within s r f e = record { small = omega (arith, f .small); within = λ n p l. go n p l }
+    where
+      go : (n : ℕ) → 0 < n → n ≤ r → Inside n
+      go n p l =
+          let b = any-at m vm n in
+          let z = mul-zero n in
+          let x = mul-le-mul-right {m = least m} {n = distance (goes n m)} (t .ticks) (b .0) in
+          let y = mul-le-mul-right {m = distance (goes n m)} {n = least m + width m} (t .ticks) (b .1) in
+          let g = between-apart _ _ _ _ _ (fine t + n * pace t) (distance (goes n m) * t .ticks)
+          (record { least = omega arith; most = omega arith }) (f .within n p (omega arith)) in
+          let h = fine-apart (t .ticks) lo hi some (fine t + n * pace t) (distance (goes n m) * t .ticks) (g .0) (g .1) in
+          rw (line-at t vt n (omega arith)) (rw (mul-div-left (distance (goes n m)) some) at h)
 
   -- both round their spans
-  pub round-within : t .mode ≡ PLAYING → m .mode ≡ PLAYING → (r : ℕ) → Rounds (next t) (next m) (span t) (span m) lo hi r → Drifts lo hi t m r
-  round-within et em r f = record { small = f .small; within = λ n p l. go n p l }
-    where
-      go : (n : ℕ) → 0 < n → n ≤ r → (lo ≤ driftAfter n t m) × (driftAfter n t m ≤ hi)
-      go zero p l = absurd (omega arith)
-      go (suc n) p l =
-          let a = ap distance (goes-on (suc n) t et) ∙ leap-round t vt n in
-          let b = ap distance (goes-on (suc n) m em) ∙ leap-round m vm n in
-          rw (a, b) (f .within (omega arith) n)
+  pub round-within : isPlaying t ≡ true → isPlaying m ≡ true → isDue t ≡ false → isDue m ≡ false → t .steps * m .ticks ≡ m .steps * t .ticks
+      → (r : ℕ)
+      → Rounds (fine t * m .ticks) (fine m * t .ticks) (span t * (t .ticks * m .ticks)) (span m * (t .ticks * m .ticks))
+      (lo * (t .ticks * m .ticks)) (hi * (t .ticks * m .ticks)) r
+      → Drifts lo hi t m r
+  round-within et em dt dm same r f =
+      record {
+        small = f .small;
+        within = λ n p l. rw (round-at t vt et dt n, round-at m vm em dm n)
+            (scaled-rounds (fine t) (fine m) (t .steps) (m .steps) (t .ticks) (m .ticks) (span t) (span m) lo hi r some some-master (omega arith)
+            (omega arith) same f (omega arith) n);
+      }
+
+  -- neither makes a step
+  pub still-within : (r : ℕ) → lo ≤ apart (distance t) (distance m) → apart (distance t) (distance m) ≤ hi → r ≡ min (still t) (still m)
+      → Drifts lo hi t m r
+  still-within r a b e =
+      record { small = omega (arith, still-small t vt); within = λ n p l. rw (still-at t vt n (omega arith), still-at m vm n (omega arith)) (a, b) }
 
   -- the line, and what ends it
-  pub line-holds : (s r : ℕ) → Stays (distance t) (distance m) 0 (pace t) (pace m) lo hi s → r ≡ min s (min (straight t) (straight m)) → Holds lo hi t m r
+  pub line-holds : (s r : ℕ) → Lined s → r ≡ min s (min (straight t) (straight m)) → Holds lo hi t m r
   line-holds s r f e =
       record {
         stretch = line-within s r f (omega arith) (omega arith) (omega arith);
-        exact = λ h. ⊎-elim (λ (a : r < straight t). ⊎-elim (λ (b : r < straight m). inl (on h a b))
+        exact = λ h. ⊎-elim (λ (a : r < straight t). ⊎-elim (λ (b : r < straight m). on h a b)
             (λ (b : straight m ≤ r). inr (second h b)) (lt-or r (straight m)))
             (λ (a : straight t ≤ r). inr (first h a)) (lt-or r (straight t));
       }
     where
-      on : r < clockEnd → r < straight t → r < straight m → (lo ≤ driftAfter (suc r) t m) × (driftAfter (suc r) t m ≤ hi) → ⊥
-      on h a b j =
+      -- the place in parts is out of the range
+      beyond : r < clockEnd → r < straight t → r < straight m → fineInRange lo hi (goes (suc r) t) (goes (suc r) m) ≡ true → ⊥
+      beyond h a b j =
           let q : r ≡ s = omega arith in
-          let dt = straight-at t vt (suc r) (omega arith) in
-          let dm = straight-at m vm (suc r) (omega arith) in
-          let g = apart-between _ _ lo hi (rw (dt, dm) at j) in
-          subst (λ (k : ℕ). (k < clockEnd → Between (distance t + suc k * pace t) (distance m + suc k * pace m) 0 lo hi → ⊥)) (sym q) (f .exact) h g
+          let g = fine-in-range lo hi (goes (suc r) t) (goes (suc r) m) (t .ticks) (m .ticks) _ _ (goes-ticks (suc r) t) (goes-ticks (suc r) m)
+          (fine-line t vt (suc r) (omega arith)) (fine-line m vm (suc r) (omega arith)) j in
+          let w = apart-between _ _ _ _ g in
+          subst
+          (λ (k : ℕ). k < clockEnd → Between (fine t * m .ticks + suc k * (pace t * m .ticks)) (fine m * t .ticks + suc k * (pace m * t .ticks)) 0 (lo * (t .ticks * m .ticks)) (hi * (t .ticks * m .ticks)) → ⊥)
+          (sym q) (f .exact) h
+          (rw (spread r (fine t) (pace t) (m .ticks), spread r (fine m) (pace m) (t .ticks)) w)
 
-      first : r < clockEnd → straight t ≤ r → TurnsBackWithin (suc r) t m
+      on : r < clockEnd → r < straight t → r < straight m → (Inside (suc r) → ⊥) ⊎ LeavesWithin lo hi (suc r) t m
+      on h a b = go (driftInRange lo hi (driftAfter (suc r) t m)) refl
+        where
+          go : (i : Bool) → driftInRange lo hi (driftAfter (suc r) t m) ≡ i → (Inside (suc r) → ⊥) ⊎ LeavesWithin lo hi (suc r) t m
+          go false i = inl (λ w. false≢true (sym i ∙ in-range-is lo hi (driftAfter (suc r) t m) w))
+          go true i =
+              inr
+              (record {
+                at = r;
+                before = omega arith;
+                which = inr (inr (edge-is lo hi (goes r t) (goes r m) (goes (suc r) t) (goes (suc r) m) (goes-next t vt r) (goes-next m vm r) i
+                    (sym (refuted (fineInRange lo hi (goes (suc r) t) (goes (suc r) m)) (beyond h a b)))));
+              })
+
+      first : r < clockEnd → straight t ≤ r → LeavesWithin lo hi (suc r) t m
       first h a = record { at = straight t; before = omega arith; which = inl (straight-turns t vt (omega arith)) }
 
-      second : r < clockEnd → straight m ≤ r → TurnsBackWithin (suc r) t m
-      second h b = record { at = straight m; before = omega arith; which = inr (straight-turns m vm (omega arith)) }
+      second : r < clockEnd → straight m ≤ r → LeavesWithin lo hi (suc r) t m
+      second h b = record { at = straight m; before = omega arith; which = inr (inl (straight-turns m vm (omega arith))) }
 
 -- the other way round
 pub within-turned : (t m : Track) (lo hi r : ℕ) → Drifts lo hi m t r → Drifts lo hi t m r
@@ -197,7 +175,7 @@ ever-holds t m lo hi r f e = record { stretch = f; exact = λ h. absurd (omega a
 pub longer-holds : (t m : Track) (lo hi a b r : ℕ) → Holds lo hi t m a → Drifts lo hi t m b → r ≡ max a b → Holds lo hi t m r
 longer-holds t m lo hi a b r f g e = ⊎-elim (λ (h : a < b). more h (omega arith)) (λ (h : b ≤ a). subst (Holds lo hi t m) (omega arith) f) (lt-or a b)
   where
-    later : (j k : ℕ) → j ≤ k → TurnsBackWithin (suc j) t m → TurnsBackWithin (suc k) t m
+    later : (j k : ℕ) → j ≤ k → LeavesWithin lo hi (suc j) t m → LeavesWithin lo hi (suc k) t m
     later j k h w = record { at = w .at; before = omega (arith, w .before); which = w .which }
 
     more : a < b → r ≡ b → Holds lo hi t m r
@@ -207,7 +185,7 @@ longer-holds t m lo hi a b r f g e = ⊎-elim (λ (h : a < b). more h (omega ari
           stretch = g;
           exact = λ k. ⊎-elim (λ (n : (lo ≤ driftAfter (suc a) t m) × (driftAfter (suc a) t m ≤ hi) → ⊥).
               absurd (n (g .within (suc a) (omega arith) (omega arith))))
-              (λ (w : TurnsBackWithin (suc a) t m). inr (later a b (omega arith) w)) (f .exact (omega (arith, g .small)));
+              (λ (w : LeavesWithin lo hi (suc a) t m). inr (later a b (omega arith) w)) (f .exact (omega (arith, g .small)));
         })
 
 -- ---- the band
@@ -220,12 +198,6 @@ pub record Paired (t m : Track) : Type 0 where
   pub leads : m .mode ≡ STOPPED → ⊥
   pub pairs : pairsTest 0 (t .thresholds) (t .events) ≡ true
   pub band : t .band ≤ length (thresholdsOf t)
-
-goes-small : (t : Track) → Valid t → (n : ℕ) → distance (goes n t) ≤ coordinateLast
-unfolding goes
-goes-small t v n =
-    cond-cases (λ (u : Track). distance u ≤ coordinateLast) (isPlaying t) (λ _. let l = leap-any t v n in omega (arith, v .ordered))
-    (λ _. let l = here t v in omega (arith, v .ordered))
 
 -- either is STOPPED: the band is none
 judged-none : (t m : Track) (n : ℕ) → (t .mode ≡ STOPPED) ⊎ (m .mode ≡ STOPPED) → judged (goes n t) (goes n m) ≡ 0

@@ -1,14 +1,16 @@
 -- The laws of a walk over a word's members, lowest first, that clears them by `word -= 1 << t`.
-use Prim.Native.Nat.{ℕ, zero, suc, _+_, _-_, _*_, _/_, _%_, _^_, _≤_, _<_}
-use mathlib.Core.Path.{_≡_, refl, sym, ap, _∙_}
+use Prim.Native.Nat.{ℕ, zero, suc, _+_, _-_, _*_, _/_, _%_, _^_, _≤_, _<_, suc-le-suc}
+use mathlib.Core.Path.{_≡_, refl, sym, ap, subst, _∙_}
 use mathlib.Core.List.{[], _∷_}
 use native.Mathlib.Omega.{arith}
-use native.Mathlib.Nat.{pow-suc, add-zero, zero-add}
+use native.Mathlib.Nat.{pow-suc, add-zero, zero-add, add-suc, suc-add}
 use lib.ListN.{length}
 use lib.Arith.{lt-one}
 use lib.Count.{ones, ones-step, trailingZeros}
-use Rattle.board.specs.Tick.{membersFrom, members}
+use Rattle.board.specs.Replay.{Each}
+use Rattle.board.specs.Tick.{keep, membersFrom, members}
 use Rattle.board.proofs.rules.Present.{bit-is}
+use Rattle.board.proofs.rules.Broken.{half-bit}
 
 halved : (k w : ℕ) → w < 2 ^ suc k → w / 2 < 2 ^ k
 halved k w h = let e = pow-suc 2 k in omega arith
@@ -116,3 +118,16 @@ count-from (suc k) t w h = count-at k t w (w % 2) refl (count-from k (suc t) (w 
 -- as many as the word has ones
 pub members-count : (w : ℕ) → w < 65536 → length (members w) ≡ ones w
 members-count w h = count-from 16 0 w h
+
+-- what holds of each number whose bit is set holds of every member
+pub each-from : (P : ℕ → Type 0) (k n w : ℕ) → ((i : ℕ) → i < k → w / 2 ^ i % 2 ≡ 1 → P (n + i)) → Each P (membersFrom k n w)
+unfolding membersFrom Each
+each-from P zero n w f = tt
+each-from P (suc k) n w f =
+    go (w % 2) refl
+    (each-from P k (suc n) (w / 2)
+    (λ i l e. subst P (add-suc n i ∙ sym (suc-add n i)) (f (suc i) (suc-le-suc l) (ap (λ (m : ℕ). m % 2) (sym (half-bit w i)) ∙ e))))
+  where
+    go : (d : ℕ) → w % 2 ≡ d → Each P (membersFrom k (suc n) (w / 2)) → Each P (keep d n (membersFrom k (suc n) (w / 2)))
+    go zero e a = a
+    go (suc d) e a = (subst P (add-zero n) (f zero (omega arith) (omega arith)), a)

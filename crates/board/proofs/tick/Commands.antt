@@ -8,7 +8,7 @@ use native.Mathlib.Nat.{add-zero}
 use native.Mathlib.Numerals.{add-one}
 use lib.Dec.{eqb, leb}
 use lib.ListN.{length, drop, set, getD, length-append, length-set, length-drop, drop-of-length-le}
-use lib.Seq.{set-getD, drop-cons}
+use lib.Seq.{set-getD, drop-cons, getD-set-other}
 use Rattle.track.specs.declared.Track.{Track}
 use Rattle.track.specs.declared.grid.Decision.{Decision}
 use Rattle.track.specs.declared.grid.Decision.the-variants as decision
@@ -21,7 +21,10 @@ use Rattle.board.specs.declared.tick.Staged.{Staged}
 use Rattle.board.specs.Log.{writeAt, logBytes, recordWidth}
 use Rattle.board.specs.Board.{noTrack, trackAt, isPresent}
 use Rattle.board.specs.Tick.{Stage, staged, commandRecords, commanded, obeyed, obeyedRecords, runCommand, runAll, InfoRule, TracksRule}
-use Rattle.board.specs.Points.{commandOf, targetOf, trackCount}
+use Rattle.board.specs.Points.{ascendingFrom, commandOf, targetOf, trackCount}
+use Rattle.board.specs.Replay.{Each}
+use Rattle.board.proofs.points.Keys.{ascending-head, ascending-rest}
+use Rattle.board.proofs.points.Rows.{ascending-weaken}
 use Rattle.board.proofs.tick.Staging.{Obeyed, obeyed-most, write-none, written-more, written-long}
 
 -- ---- one command
@@ -49,6 +52,16 @@ module _ (P : Track → Type 0) (t : Track) (p : P t) (f : (m : ℕ) → m ≤ W
   pub obeyed-keeps : (d : ℕ) → P (obeyed d t)
   obeyed-keeps d =
       cond-cases P (eqb (commandOf d) 0) (λ e. p) (λ e. ruled-keeps (gridOf (t .mode) (commandOf d)) (grid-goes (t .mode) (commandOf d)))
+
+-- tracks of higher numbers are as they were
+pub each-set : (P : Track → Type 0) (ts : List Track) (i : ℕ) (t : Track) (is : List ℕ) → ascendingFrom (suc i) is ≡ true
+    → Each (λ j. P (trackAt ts j)) is → Each (λ j. P (trackAt (set ts i t) j)) is
+unfolding Each
+each-set P ts i t [] a e = tt
+each-set P ts i t (j ∷ js) a e =
+    let l : i < j = ascending-head (suc i) j js a in
+    let r : ascendingFrom (suc i) js ≡ true = ascending-weaken (suc i) (suc j) js (omega arith) (ascending-rest (suc i) j js a) in
+    (subst P (sym (getD-set-other ts i j t noTrack (λ q. omega arith))) (e .0), each-set P ts i t js r (e .1))
 
 -- what holds of a track as it was, and of the one put there, holds of it afterwards
 pub at-set : (P : Track → Type 0) (ts : List Track) (k i : ℕ) (x : Track) → P (trackAt ts i) → (i ≡ k → P x) → P (trackAt (set ts k x) i)

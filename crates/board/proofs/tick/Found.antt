@@ -8,10 +8,10 @@ use lib.Dec.{eqb, leb}
 use lib.ListN.{length, set, getD}
 use borrow.Author.Tests.{ne-eqb, leb-true}
 use Rattle.track.specs.declared.Track.{Track}
-use Rattle.track.specs.Rule.{Valid, eventMost}
-use Rattle.track.specs.Walk.{step}
+use Rattle.track.specs.Rule.{PLAYING, Valid, eventMost}
+use Rattle.track.specs.Leap.{played}
 use Rattle.track.proofs.Tests.{cond-cases, both}
-use Rattle.track.proofs.Arrivals.{step-valid}
+use Rattle.track.proofs.Leaps.{played-valid}
 use Rattle.board.specs.Points.{infoAt, pointOf, eventOf, waitOf, commandOf, targetOf}
 use Rattle.board.specs.Board.{trackAt, isPresent, placeTest, allowedTest, pointsTest}
 use Rattle.board.specs.Tick.{reachedBy, InfoRule, TracksRule}
@@ -41,7 +41,7 @@ module _ (present : ℕ) where
   none-allowed = (record { event = omega arith; command = omega arith; target = omega arith }, λ n. absurd (n refl))
 
   -- an info that is found, or 0, is one
-  pub found-allowed : (ts : List Track) (k lo : ℕ) (ks ds : List ℕ) → pointsTest present ts lo ks ds ≡ true → Allowed (infoAt k ks ds)
+  found-allowed : (ts : List Track) (k lo : ℕ) (ks ds : List ℕ) → pointsTest present ts lo ks ds ≡ true → Allowed (infoAt k ks ds)
   unfolding pointsTest infoAt
   found-allowed ts k lo [] ds h = none-allowed
   found-allowed ts k lo (x ∷ ks) [] h = none-allowed
@@ -54,14 +54,18 @@ module _ (present : ℕ) where
       let c = both (allowedTest present p) rest (b .1) in
       cond-cases Allowed (eqb x k) (λ e. info-allowed x d (c .0)) (λ e. found-allowed ts k (suc x) ks ds (c .1))
 
-  module _ (ts : List Track) (ks ds : List ℕ) (h : pointsTest present ts 0 ks ds ≡ true) (k : ℕ) where
-    -- an info that is found, or 0, keeps its rule
-    pub found-rule : InfoRule (infoAt k ks ds)
-    found-rule = found-allowed ts k 0 ks ds h .0
+  -- the same where it is looked for only if a step is made
+  module _ (ts : List Track) (ks ds : List ℕ) (h : pointsTest present ts 0 ks ds ≡ true) (made : Bool) (k : ℕ) where
+    pub met-allowed : Allowed (cond made (infoAt k ks ds) 0)
+    met-allowed = cond-cases Allowed made (λ _. found-allowed ts k 0 ks ds h) (λ _. none-allowed)
+
+    -- it keeps its rule
+    pub found-rule : InfoRule (cond made (infoAt k ks ds) 0)
+    found-rule = met-allowed .0
 
     -- and its target is present, if it has a command
-    pub found-target : (commandOf (infoAt k ks ds) ≡ 0 → ⊥) → isPresent present (targetOf (infoAt k ks ds)) ≡ true
-    found-target = found-allowed ts k 0 ks ds h .1
+    pub found-target : (commandOf (cond made (infoAt k ks ds) 0) ≡ 0 → ⊥) → isPresent present (targetOf (cond made (infoAt k ks ds) 0)) ≡ true
+    found-target = met-allowed .1
 
 -- ---- the rules that the commands rely on
 
@@ -79,13 +83,14 @@ module _ (P : ℕ → Type 0) where
       one zero h = p
       one (suc j) h = absurd (omega arith)
 
--- a step keeps them, where the info that it finds keeps its rule and has a present target, if any
+-- a tick of a playing track keeps them, where the info that it finds keeps its rule and has a present target, if any
 pub step-rule : (present : ℕ) (ts : List Track) (ds : List ℕ) (i : ℕ) (w : Bool) (d : ℕ) → TracksRule present ts ds → InfoRule d
-    → ((commandOf d ≡ 0 → ⊥) → isPresent present (targetOf d) ≡ true) → TracksRule present (set ts i (step (trackAt ts i) w)) (ds ++ reachedBy d)
-step-rule present ts ds i w d r k g =
+    → ((commandOf d ≡ 0 → ⊥) → isPresent present (targetOf d) ≡ true) → trackAt ts i .mode ≡ PLAYING
+    → TracksRule present (set ts i (played (trackAt ts i) w)) (ds ++ reachedBy d)
+step-rule present ts ds i w d r k g m =
     record {
-      tracks = λ j h. at-set Valid ts i j (step (trackAt ts i) w) (r .tracks j h)
-          (λ e. step-valid (trackAt ts i) (subst (λ (n : ℕ). Valid (trackAt ts n)) e (r .tracks j h)) w);
+      tracks = λ j h. at-set Valid ts i j (played (trackAt ts i) w) (r .tracks j h)
+          (λ e. played-valid (trackAt ts i) (subst (λ (n : ℕ). Valid (trackAt ts n)) e (r .tracks j h)) w (λ z. omega (arith, m, z)));
       infos = each-append InfoRule ds (reachedBy d) (r .infos) (each-reached InfoRule d k);
       targets =
           each-append (λ (n : ℕ). (commandOf n ≡ 0 → ⊥) → isPresent present (targetOf n) ≡ true) ds (reachedBy d) (r .targets)

@@ -4,14 +4,15 @@ use mathlib.Core.Path.{_≡_, refl}
 use mathlib.Core.Bool.{true}
 use mathlib.Core.List.{List, _++_, map}
 use lib.ListN.{length}
-use Rattle.track.specs.Rule.{newTrack, entered, every, orderedTest, eventsTest, cellsTest, validTest, soundTest}
+use Rattle.track.specs.Rule.{newTrack, entered, every, orderedTest, eventsTest, cellsTest, ratedTest, validTest, soundTest}
 use Rattle.track.specs.Follow.{upToZero, zerosTest, pairsTest, bandOf, judged, followerTest}
 use Rattle.track.specs.Number.{coordinateAt}
 use Rattle.track.specs.Grid.{gridOf}
 use Rattle.track.specs.Walk.{arrival, passesAt, stops, visited, step}
+use Rattle.track.specs.Leap.{moves, remainderLeft, played}
 use Rattle.board.specs.Points.{keysOf, infosOf, keyOf, infoOf, pointOf, infoAt, waits}
 use Rattle.board.specs.Board.{isPresent, masterTest, trackTest, tracksTest, placeTest, allowedTest, pointsTest, shapeTest, unbrokenParts, unbrokenTest}
-use Rattle.board.specs.Tick.{membersFrom, members, pointRecords, changeRecords, playingWord, stepRecords, stepMember, stepAll, commandRecords, commanded, runCommand, runAll, playFrom}
+use Rattle.board.specs.Tick.{membersFrom, members, pointRecords, changeRecords, playingWord, foundBy, stepRecords, stepMember, stepAll, commandRecords, commanded, runCommand, runAll, playFrom}
 use Rattle.board.specs.Tick.{followWord, bandRecords, followMember, followAll, tickMost, tickFrom, tickOf}
 use Rattle.board.proofs.tick.Steps.{stepsFrom}
 use Rattle.board.specs.Full.{allTracks, partner, standsOn, fullTrack, fullPoint, fullRow, fullBoard, ofSteps, ofCommand, ofFollower}
@@ -33,5 +34,5 @@ pub record FullTick : Type 0 where
   pub most : length (tickOf fullBoard .records) ≡ tickMost
 
 pub full-tick : FullTick
-unfolding partner standsOn fullTrack fullPoint fullRow fullBoard ofSteps ofCommand ofFollower newTrack entered every orderedTest eventsTest cellsTest validTest soundTest upToZero zerosTest pairsTest bandOf judged followerTest coordinateAt gridOf arrival passesAt stops visited step keyOf infoOf pointOf infoAt waits isPresent masterTest trackTest tracksTest placeTest allowedTest pointsTest shapeTest unbrokenParts membersFrom pointRecords changeRecords playingWord stepRecords stepMember stepAll commandRecords commanded runCommand runAll playFrom followWord bandRecords followMember followAll tickFrom
+unfolding partner standsOn fullTrack fullPoint fullRow fullBoard ofSteps ofCommand ofFollower newTrack entered every orderedTest eventsTest cellsTest ratedTest validTest soundTest upToZero zerosTest pairsTest bandOf judged followerTest coordinateAt gridOf arrival passesAt stops visited step moves remainderLeft played foundBy keyOf infoOf pointOf infoAt waits isPresent masterTest trackTest tracksTest placeTest allowedTest pointsTest shapeTest unbrokenParts membersFrom pointRecords changeRecords playingWord stepRecords stepMember stepAll commandRecords commanded runCommand runAll playFrom followWord bandRecords followMember followAll tickFrom
 full-tick = record { whole = refl; of-steps = refl; with-commands = refl; with-followers = refl; counts = (refl, refl, refl); most = refl }

@@ -1,20 +1,24 @@
 -- The word of the tracks that are PLAYING, and the laws of any word of tracks.
-use mathlib.Core.Path.{_≡_, refl, sym, ap, _∙_}
+use mathlib.Core.Path.{_≡_, refl, sym, ap, subst, _∙_}
+use mathlib.Core.Bool.{Bool, true, false, cond}
 use mathlib.Core.List.{List, [], _∷_}
-use Prim.Native.Nat.{ℕ, suc, _+_, _-_, _*_, _/_, _%_, _^_, _≤_, _<_}
+use Prim.Native.Nat.{ℕ, zero, suc, _+_, _-_, _*_, _/_, _%_, _^_, _≤_, _<_}
 use native.Mathlib.Omega.{arith}
-use native.Mathlib.Nat.{div-div-eq-div-mul, pow-suc, div-one}
+use native.Mathlib.Nat.{div-div-eq-div-mul, pow-suc, div-one, zero-div, zero-add}
 use lib.Dec.{eqb}
 use lib.ListN.{length, drop, length-drop, drop-of-length-le}
 use lib.Pow.{pow-mono}
 use lib.Seq.{drop-cons}
-use borrow.Author.Tests.{eq-eqb, ne-eqb}
+use borrow.Author.Tests.{eqb-true, eq-eqb, ne-eqb}
 use Rattle.track.specs.declared.Track.{Track}
 use Rattle.track.specs.Rule.{PLAYING}
 use Rattle.track.proofs.Tests.{cond-cases}
 use Rattle.board.specs.Board.{noTrack, trackAt}
-use Rattle.board.specs.Tick.{playBit, playingWord}
+use Rattle.board.specs.Tick.{members, playBit, playingWord}
 use Rattle.board.specs.Points.{trackCount}
+use Rattle.board.specs.Replay.{Each}
+use Rattle.board.proofs.rules.Broken.{half-bit}
+use Rattle.board.proofs.tick.Bits.{each-from}
 
 -- a track's bit
 pub bit-yes : (bit : ℕ) (t : Track) → t .mode ≡ PLAYING → bit ≡ playBit bit t
@@ -50,6 +54,20 @@ module _ {bitOf : ℕ → Track → ℕ} {wordOf : ℕ → List Track → ℕ} (
       let e = pow-suc 2 (length ts) in
       omega (arith, W .more w t ts)
 
+  -- a bit of the word that is set is set in what it is made of
+  pub word-bit : (i w : ℕ) (ts : List Track) → wordOf w ts / 2 ^ i % 2 ≡ 1 → bitOf (w / 2 ^ i % 2) (trackAt ts i) ≡ 1
+  word-bit i w [] h = absurd (let e : 0 / 2 ^ i ≡ 0 = zero-div (2 ^ i) in omega (arith, e, ap (λ (x : ℕ). x / 2 ^ i % 2) (sym (W .none w)) ∙ h))
+  word-bit zero w (t ∷ ts) h =
+      let b = W .small (w % 2) t (omega arith) in
+      let e : w / 2 ^ zero % 2 ≡ w % 2 = omega arith in
+      ap (λ (d : ℕ). bitOf d t) e ∙ omega (arith, W .more w t ts)
+  word-bit (suc i) w (t ∷ ts) h =
+      let b = W .small (w % 2) t (omega arith) in
+      let v = wordOf w (t ∷ ts) in
+      let e : wordOf (w / 2) ts ≡ v / 2 = omega (arith, W .more w t ts) in
+      let r = word-bit i (w / 2) ts (ap (λ (x : ℕ). x / 2 ^ i % 2) e ∙ ap (λ (x : ℕ). x % 2) (half-bit v i) ∙ h) in
+      ap (λ (d : ℕ). bitOf d (trackAt ts i)) (ap (λ (x : ℕ). x % 2) (sym (half-bit w i))) ∙ r
+
   -- ---- a turn of the loop from the last track down
 
   module _ (ts : List Track) (l : length ts ≡ trackCount) (w : ℕ) where
@@ -83,3 +101,16 @@ module _ {bitOf : ℕ → Track → ℕ} {wordOf : ℕ → List Track → ℕ} (
 pub playing-word : WordBy playBit playingWord
 unfolding playingWord
 playing-word = record { small = bit-small; none = λ w. refl; more = λ w t ts. refl }
+
+-- its members play
+pub players-play : (present : ℕ) (ts : List Track) → Each (λ i. trackAt ts i .mode ≡ PLAYING) (members (playingWord present ts))
+players-play present ts =
+    each-from (λ i. trackAt ts i .mode ≡ PLAYING) trackCount 0 (playingWord present ts)
+    (λ i l e. subst (λ (j : ℕ). trackAt ts j .mode ≡ PLAYING) (sym (zero-add i)) (plays i (word-bit playing-word i present ts e)))
+  where
+    plays : (i : ℕ) → playBit (present / 2 ^ i % 2) (trackAt ts i) ≡ 1 → trackAt ts i .mode ≡ PLAYING
+    plays i = go (eqb (trackAt ts i .mode) PLAYING) refl
+      where
+        go : (b : Bool) → eqb (trackAt ts i .mode) PLAYING ≡ b → cond b (present / 2 ^ i % 2) 0 ≡ 1 → trackAt ts i .mode ≡ PLAYING
+        go true e h = eqb-true _ _ e
+        go false e h = absurd (omega (arith, h))

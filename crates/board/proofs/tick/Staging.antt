@@ -1,5 +1,6 @@
 -- The records that a tick stages: their bytes behind one another, and how many each part of a tick writes.
 use mathlib.Core.Path.{_≡_, refl, sym, ap, subst, _∙_}
+use mathlib.Core.Bool.{Bool, true, false, cond}
 use mathlib.Core.List.{List, [], _∷_, _++_, append-nil, append-assoc}
 use Prim.Native.Nat.{ℕ, zero, suc, _+_, _-_, _*_, _≤_, _<_}
 use native.Mathlib.Omega.{arith}
@@ -12,12 +13,15 @@ use borrow.Author.Tests.{eq-eqb, ne-eqb}
 use Rattle.track.specs.declared.Track.{Track}
 use Rattle.track.specs.declared.grid.Decision.{Decision}
 use Rattle.track.specs.declared.grid.Decision.the-variants as decision
-use Rattle.track.specs.Rule.{Valid, actionCell, entered}
+use Rattle.track.specs.Rule.{STOPPED, Valid, actionCell, withRemainder, entered}
 use Rattle.track.specs.Grid.{gridOf}
 use Rattle.track.specs.Walk.{arrival, passesAt, step}
+use Rattle.track.specs.Leap.{added, moves, played}
+use Rattle.track.proofs.Leaps.{played-stands, played-left}
 use Rattle.track.proofs.Tests.{cond-cases}
 use Rattle.board.specs.declared.log.Record.{Record}
 use Rattle.board.specs.declared.tick.Staged.{Staged}
+use Rattle.board.specs.declared.tick.Stepped.{Stepped}
 use Rattle.board.specs.Log.{writeAt, recordBytes, logBytes, recordWidth}
 use Rattle.board.specs.Tick.{recordOf, pointRecords, changeRecords, refusalRecord, stepped, stepRecords, commandRecords, commanded, obeyed, obeyedRecords, reachedBy}
 use Rattle.board.specs.Points.{waits, commandOf, targetOf, eventOf}
@@ -154,12 +158,14 @@ change-most clock track t new l passes =
 
 -- ---- how many records each part writes
 
--- a step writes at most two
+-- a tick of a track writes at most two
 pub step-most : (clock i : ℕ) (t : Track) (d : ℕ) → length (stepRecords clock i t d) ≤ 2
 unfolding stepRecords
 step-most clock i t d =
     let l : ℕ = arrival t in
-    simp length-append (omega (arith, point-most clock i l (t .passes .0) d, change-most clock i t (step t (waits d) .mode) l (passesAt t l)))
+    cond-cases (λ (rs : List Record). length rs ≤ 2) (moves t)
+    (λ _. simp length-append (omega (arith, point-most clock i l (t .passes .0) d, change-most clock i t (played t (waits d) .mode) l (passesAt t l))))
+    (λ _. omega arith)
 
 -- a command writes at most one
 pub command-most : (clock d : ℕ) (t : Track) (r : Decision) → length (commandRecords clock d t r) ≤ 1
@@ -190,19 +196,39 @@ module _ (xs : List ℕ) (m d : ℕ) where
 
 -- ---- the ways out of `step_member`, `command` and `obey`
 
--- a step writes its point's record, then that of its change of mode
-pub step-out : (clock track : ℕ) (t : Track) (d : ℕ) (xs : List ℕ) (n : ℕ) {ys zs : List ℕ} {l p m k : ℕ} {u : Track} →
-    (n + 2) * recordWidth ≤ length xs → l ≡ arrival t → p ≡ passesAt t l → u ≡ step t (waits d) → Written xs ys n m (pointRecords clock track l (t .passes .0) d) →
-    Written ys zs m k (changeRecords clock track t (u .mode) l p) →
-    (stepped u k ≡ stepped (step t (waits d)) (n + length (stepRecords clock track t d)))
+-- a tick without a step writes nothing, and changes the remainder alone
+pub unstepped-out : (clock track : ℕ) (t : Track) (d : ℕ) (xs : List ℕ) (n : ℕ) {made : Bool} → made ≡ moves t → made ≡ false →
+    (stepped (withRemainder t (added t)) n ≡ stepped (played t (waits d)) (n + length (stepRecords clock track t d)))
+    × (xs ≡ writeAt xs (n * recordWidth) (logBytes (stepRecords clock track t d)))
+unfolding stepRecords
+unstepped-out clock track t d xs n em h =
+    let m : moves t ≡ false = sym em ∙ h in
+    let e : [] ≡ stepRecords clock track t d = simp m in
+    let eu = sym (played-stands t (waits d) m) in
+    let w = written-none xs n {rs = []} refl in
+    ((λ i. stepped (eu i) ((w .0 ∙ ap (λ (rs : List Record). n + length rs) e) i)), w .1 ∙ ap (λ (rs : List Record). writeAt xs (n * recordWidth) (logBytes rs)) e)
+
+-- what a step changes of a track, where the remainder is put behind it
+abbrev pub leftBy : Track → ℕ → ℕ → Stepped
+leftBy u r n = stepped (withRemainder u r) n
+
+-- one with a step writes its point's record, then that of its change of mode
+pub step-out : (clock track : ℕ) (t : Track) (d : ℕ) (xs : List ℕ) (n : ℕ) {ys zs : List ℕ} {l p m k r : ℕ} {u : Track} {made : Bool} → Valid t →
+    made ≡ moves t → made ≡ true → (n + 2) * recordWidth ≤ length xs → l ≡ arrival t → p ≡ passesAt t l → u ≡ step t (waits d) →
+    Written xs ys n m (pointRecords clock track l (t .passes .0) d) → Written ys zs m k (changeRecords clock track t (u .mode) l p) →
+    r ≡ cond (eqb (u .mode) STOPPED) 0 (added t - t .ticks) →
+    (leftBy u r k ≡ stepped (played t (waits d)) (n + length (stepRecords clock track t d)))
     × (zs ≡ writeAt xs (n * recordWidth) (logBytes (stepRecords clock track t d)))
 unfolding stepRecords
-step-out clock track t d xs n {l = l} {p} {m} {k} {u} h el ep eu a b =
+step-out clock track t d xs n {l = l} {p} {m} {k} {r} {u} v em h room el ep eu a b er =
+    let y : moves t ≡ true = sym em ∙ h in
+    let q : withRemainder u r ≡ played t (waits d) = (λ i. withRemainder (eu i) ((er ∙ ap (λ (u : Track). cond (eqb (u .mode) STOPPED) 0 (added t - t .ticks)) eu) i)) ∙ sym (played-left t v (waits d) y) in
+    let f : u .mode ≡ played t (waits d) .mode = ap (λ (u : Track). u .mode) q in
     let e : pointRecords clock track l (t .passes .0) d ++ changeRecords clock track t (u .mode) l p ≡ stepRecords clock track t d =
-    λ i. pointRecords clock track (el i) (t .passes .0) d ++ changeRecords clock track t (eu i .mode) (el i) ((ep ∙ ap (passesAt t) el) i) in
+    (λ i. pointRecords clock track (el i) (t .passes .0) d ++ changeRecords clock track t (f i) (el i) ((ep ∙ ap (passesAt t) el) i)) ∙ simp y in
     let w = written-more xs n (pointRecords clock track l (t .passes .0) d) (changeRecords clock track t (u .mode) l p) a b
     (omega (arith, point-most clock track l (t .passes .0) d, change-most clock track t (u .mode) l p)) in
-    (λ i. stepped (eu i) ((w .0 ∙ ap (λ (rs : List Record). n + length rs) e) i), w .1 ∙ ap (λ (rs : List Record). writeAt xs (n * recordWidth) (logBytes rs)) e)
+    ((λ i. stepped (q i) ((w .0 ∙ ap (λ (rs : List Record). n + length rs) e) i)), w .1 ∙ ap (λ (rs : List Record). writeAt xs (n * recordWidth) (logBytes rs)) e)
 
 module _ (clock d : ℕ) (t : Track) (xs : List ℕ) (n : ℕ) where
   -- a track after its command, and what was written

@@ -10,12 +10,14 @@ use borrow.Author.Tests.{eqb-true, eqb-false, le-leb}
 use Rattle.track.specs.declared.Track.{Track}
 use Rattle.track.specs.declared.Ticks.{Ticks}
 use Rattle.track.specs.declared.Coordinate.{Coordinate}
-use Rattle.track.specs.Rule.{STOPPED, WAITING, clockEnd, Sound, entered}
+use Rattle.track.specs.Rule.{STOPPED, PLAYING, WAITING, clockEnd, Sound, withRemainder, entered}
 use Rattle.track.specs.Follow.{judged, banded}
 use Rattle.track.specs.Walk.{stops, visited, step}
+use Rattle.track.specs.Leap.{moves, remainderLeft, played}
 use Rattle.track.proofs.Tests.{cond-cases, both, both-is}
-use Rattle.track.proofs.Arrivals.{step-valid, step-passes, entered-valid, entered-passes}
-use Rattle.track.proofs.Follows.{SameFollower, same-follower, then-follower, step-follower, entered-follower, banded-sound, judged-most}
+use Rattle.track.proofs.Arrivals.{entered-valid, entered-passes}
+use Rattle.track.proofs.Leaps.{played-valid, played-passes}
+use Rattle.track.proofs.Follows.{SameFollower, same-follower, then-follower, played-follower, entered-follower, banded-sound, judged-most}
 use Rattle.board.specs.declared.Board.{Board}
 use Rattle.board.specs.declared.log.Record.{Record}
 use Rattle.board.specs.Points.{pointMost, ascendingFrom, keysOf, infosOf, pointOf, waits, trackCount}
@@ -26,7 +28,8 @@ use Rattle.board.specs.Tick.{Stage, staged, foundBy, stepRecords, reache
 use Rattle.board.proofs.rules.Broken.{Kept, kept-same, kept-banded, tracks-at, tracks-are, shape-same}
 use Rattle.board.proofs.points.Keys.{ascending-head, ascending-rest, ascending-cons}
 use Rattle.board.proofs.tick.Staging.{step-most, reached-most}
-use Rattle.board.proofs.tick.Commands.{at-set, run-adds, run-long, run-at}
+use Rattle.board.proofs.tick.PlayingLaws.{players-play}
+use Rattle.board.proofs.tick.Commands.{at-set, each-set, run-adds, run-long, run-at}
 use Rattle.board.proofs.follow.Following.{Still, followedFrom, follow-apart, follow-adds, follow-long, follow-keeps, following-same, bands-same, follow-word, follower-set, follow-bands, follow-fewer}
 
 -- ---- the members of a word
@@ -65,7 +68,7 @@ module _ (keys infos : List ℕ) (clock : ℕ) where
   foundAt i ts = foundBy keys infos i (trackAt ts i)
 
   abbrev pub steppedIn : ℕ → List Track → List Track
-  steppedIn i ts = set ts i (step (trackAt ts i) (waits (foundAt i ts)))
+  steppedIn i ts = set ts i (played (trackAt ts i) (waits (foundAt i ts)))
 
   abbrev pub writtenBy : ℕ → List Track → List Record
   writtenBy i ts = stepRecords clock i (trackAt ts i) (foundAt i ts)
@@ -125,7 +128,7 @@ module _ (keys infos : List ℕ) (clock : ℕ) where
   unfolding stepAll stepMember
   steps-long [] s = refl
   steps-long (i ∷ is) s =
-      steps-long is (stepMember keys infos clock i s) ∙ length-set (s .tracks) i (step (trackAt (s .tracks) i) (waits (foundAt i (s .tracks))))
+      steps-long is (stepMember keys infos clock i s) ∙ length-set (s .tracks) i (played (trackAt (s .tracks) i) (waits (foundAt i (s .tracks))))
 
   -- what holds of a track below the members, their steps keep
   pub steps-below : (P : Track → Type 0) (i lo : ℕ) (is : List ℕ) (s : Stage) → ascendingFrom lo is ≡ true → i < lo
@@ -135,15 +138,18 @@ module _ (keys infos : List ℕ) (clock : ℕ) where
   steps-below P i lo (k ∷ is) s a l p =
       let m = ascending-head lo k is a in
       steps-below P i (suc k) is (stepMember keys infos clock k s) (ascending-rest lo k is a) (omega arith)
-      (at-set P (s .tracks) k i (step (trackAt (s .tracks) k) (waits (foundAt k (s .tracks)))) p (λ e. absurd (omega arith)))
+      (at-set P (s .tracks) k i (played (trackAt (s .tracks) k) (waits (foundAt k (s .tracks)))) p (λ e. absurd (omega arith)))
 
-  -- each track is stepped at most once: what holds of it before and of it stepped holds after the steps
-  module _ (P Q : Track → Type 0) (f : (t : Track) → P t → Q t) (g : (t : Track) → P t → (w : Bool) → Q (step t w)) where
-    pub steps-at : (i lo : ℕ) (is : List ℕ) (s : Stage) → ascendingFrom lo is ≡ true → P (trackAt (s .tracks) i) → Q (trackAt (stepAll keys infos clock is s .tracks) i)
-    unfolding stepAll stepMember
-    steps-at i lo [] s a p = f (trackAt (s .tracks) i) p
-    steps-at i lo (k ∷ is) s a p =
-        let b = ascending-rest lo k is a in go b (steps-at i (suc k) is (stepMember keys infos clock k s) b) (eqb i k) refl
+  -- each playing track is stepped at most once: what holds of it before and of it one tick on holds after the steps
+  module _ (P Q : Track → Type 0) (f : (t : Track) → P t → Q t) (g : (t : Track) → P t → t .mode ≡ PLAYING → (w : Bool) → Q (played t w)) where
+    pub steps-at : (i lo : ℕ) (is : List ℕ) (s : Stage) → ascendingFrom lo is ≡ true → Each (λ j. trackAt (s .tracks) j .mode ≡ PLAYING) is →
+        P (trackAt (s .tracks) i) → Q (trackAt (stepAll keys infos clock is s .tracks) i)
+    unfolding stepAll stepMember Each
+    steps-at i lo [] s a m p = f (trackAt (s .tracks) i) p
+    steps-at i lo (k ∷ is) s a m p =
+        let b = ascending-rest lo k is a in
+        let n = each-set (λ t. t .mode ≡ PLAYING) ts k (played (trackAt ts k) w) is b (m .1) in
+        go b (steps-at i (suc k) is (stepMember keys infos clock k s) b n) (eqb i k) refl
       where
         ts : List Track
         ts = s .tracks
@@ -151,13 +157,13 @@ module _ (keys infos : List ℕ) (clock : ℕ) where
         w : Bool
         w = waits (foundAt k ts)
 
-        go : ascendingFrom (suc k) is ≡ true → (P (trackAt (set ts k (step (trackAt ts k) w)) i) → Q (trackAt (stepAll keys infos clock is (stepMember keys infos clock k s) .tracks) i))
+        go : ascendingFrom (suc k) is ≡ true → (P (trackAt (set ts k (played (trackAt ts k) w)) i) → Q (trackAt (stepAll keys infos clock is (stepMember keys infos clock k s) .tracks) i))
             → (b : Bool) → eqb i k ≡ b → Q (trackAt (stepAll keys infos clock is (stepMember keys infos clock k s) .tracks) i)
         go a ih true e =
             let q = eqb-true i k e in
             steps-below Q i (suc k) is (stepMember keys infos clock k s) a (omega arith)
-            (at-set Q ts k i (step (trackAt ts k) w) (f (trackAt ts i) p) (λ e. g (trackAt ts k) (subst (λ (j : ℕ). P (trackAt ts j)) e p) w))
-        go a ih false e = ih (at-set P ts k i (step (trackAt ts k) w) p (λ q. absurd (eqb-false i k e q)))
+            (at-set Q ts k i (played (trackAt ts k) w) (f (trackAt ts i) p) (λ e. g (trackAt ts k) (subst (λ (j : ℕ). P (trackAt ts j)) e p) (m .0) w))
+        go a ih false e = ih (at-set P ts k i (played (trackAt ts k) w) p (λ q. absurd (eqb-false i k e q)))
 
 -- ---- the bounds of a track
 
@@ -169,6 +175,10 @@ module _ (low high : Coordinate) where
   step-bounded : (t : Track) → Bounded t → (w : Bool) → Bounded (step t w)
   unfolding step visited
   step-bounded t b w = cond-cases Bounded (stops t) (λ e. b) (λ e. b)
+
+  played-bounded : (t : Track) → Bounded t → t .mode ≡ PLAYING → (w : Bool) → Bounded (played t w)
+  unfolding played
+  played-bounded t b m w = cond-cases Bounded (moves t) (λ e. step-bounded (withRemainder t (remainderLeft t)) b w) (λ e. b)
 
   -- a change of mode keeps them
   pub entered-bounded : (t : Track) → Bounded t → (m : ℕ) → Bounded (entered t m)
@@ -186,9 +196,9 @@ module _ (t : Track) (now : Ticks) (s : Sound t now) where
   pub later-sound : Sound t (record { 0 = now .0 + 1 })
   later-sound = record { valid = s .valid; passes = omega (arith, s .passes) }
 
-  -- and stepped by then
-  pub step-sound : (w : Bool) → Sound (step t w) (record { 0 = now .0 + 1 })
-  step-sound w = record { valid = step-valid t (s .valid) w; passes = omega (arith, s .passes, step-passes t w) }
+  -- and played till then
+  pub played-sound : t .mode ≡ PLAYING → (w : Bool) → Sound (played t w) (record { 0 = now .0 + 1 })
+  played-sound m w = record { valid = played-valid t (s .valid) w (λ e. omega (arith, m, e)); passes = omega (arith, s .passes, played-passes t (s .valid) w) }
 
 -- ---- a tick
 
@@ -199,104 +209,104 @@ module _ (keys infos : List ℕ) (clock present : ℕ) (ts : List Track) where
   abbrev stepped : Stage
   stepped = stepAll keys infos clock playing (staged ts [] [])
 
-  abbrev played : Stage
-  played = playFrom keys infos clock present ts
+  abbrev afterPlay : Stage
+  afterPlay = playFrom keys infos clock present ts
 
   -- the steps and the commands write at most three records for each track
-  pub play-few : length (played .records) ≤ 3 * trackCount
+  pub play-few : length (afterPlay .records) ≤ 3 * trackCount
   unfolding playFrom
   play-few = omega (arith, steps-few keys infos clock (playingWord present ts) ts, run-adds clock (stepped .reached) stepped)
 
   -- and leave as many tracks
-  pub play-long : length (played .tracks) ≡ length ts
+  pub play-long : length (afterPlay .tracks) ≡ length ts
   unfolding playFrom
   play-long = run-long clock (stepped .reached) stepped ∙ steps-long keys infos clock playing (staged ts [] [])
 
-  -- what holds of a track before, of it stepped, and of that in every other mode, holds of it after them
-  pub play-at : (P Q : Track → Type 0) → ((t : Track) → P t → Q t) → ((t : Track) → P t → (w : Bool) → Q (step t w))
-      → ((t : Track) → Q t → (m : ℕ) → m ≤ WAITING → Q (entered t m)) → (i : ℕ) → P (trackAt ts i) → Q (trackAt (played .tracks) i)
+  -- what holds of a track before, of it one tick on where it plays, and of that in every other mode, holds of it after them
+  pub play-at : (P Q : Track → Type 0) → ((t : Track) → P t → Q t) → ((t : Track) → P t → t .mode ≡ PLAYING → (w : Bool) → Q (played t w))
+      → ((t : Track) → Q t → (m : ℕ) → m ≤ WAITING → Q (entered t m)) → (i : ℕ) → P (trackAt ts i) → Q (trackAt (afterPlay .tracks) i)
   unfolding playFrom
   play-at P Q f g h i p =
       run-at clock Q h i (stepped .reached) stepped
-      (steps-at keys infos clock P Q f g i 0 playing (staged ts [] []) (members-ascend trackCount 0 (playingWord present ts)) p)
+      (steps-at keys infos clock P Q f g i 0 playing (staged ts [] []) (members-ascend trackCount 0 (playingWord present ts)) (players-play present ts) p)
 
   -- no step and no command changes a master, thresholds, events or a band
-  pub play-follower : (i : ℕ) → SameFollower (trackAt ts i) (trackAt (played .tracks) i)
+  pub play-follower : (i : ℕ) → SameFollower (trackAt ts i) (trackAt (afterPlay .tracks) i)
   play-follower i =
       let t = trackAt ts i in
-      play-at (SameFollower t) (SameFollower t) (λ u e. e) (λ u e w. then-follower e (step-follower u w))
+      play-at (SameFollower t) (SameFollower t) (λ u e. e) (λ u e _ w. then-follower e (played-follower u w))
       (λ u e m _. then-follower e (entered-follower u m)) i (same-follower t)
 
   -- a track that kept the rules of a board with those present keeps them
   pub play-kept : (before : Ticks) (i j : ℕ) → Kept present j (trackAt ts i) before
-      → Kept present j (trackAt (played .tracks) i) (record { 0 = before .0 + 1 })
+      → Kept present j (trackAt (afterPlay .tracks) i) (record { 0 = before .0 + 1 })
   play-kept before i j =
       let after : Ticks = record { 0 = before .0 + 1 } in
       play-at (λ t. Kept present j t before) (λ t. Kept present j t after)
       (λ t k. kept-same k (omega arith) (same-follower t) (later-sound t before (k .sound)))
-      (λ t k w. kept-same k (omega arith) (step-follower t w) (step-sound t before (k .sound) w))
+      (λ t k p w. kept-same k (omega arith) (played-follower t w) (played-sound t before (k .sound) p w))
       (λ t k m l. kept-same k (omega arith) (entered-follower t m) (entered-sound t after (k .sound) m l)) i
 
   -- the same tracks follow then
-  pub play-follow-word : followWord present (played .tracks) ≡ followWord present ts
-  play-follow-word = following-same present ts (played .tracks) play-long (λ i. play-follower i .thresholds)
+  pub play-follow-word : followWord present (afterPlay .tracks) ≡ followWord present ts
+  play-follow-word = following-same present ts (afterPlay .tracks) play-long (λ i. play-follower i .thresholds)
 
   -- and the same bands are held
-  pub play-bands : bandCount present (played .tracks) ≡ bandCount present ts
-  play-bands = bands-same present ts (played .tracks) play-long (λ i. play-follower i .band)
+  pub play-bands : bandCount present (afterPlay .tracks) ≡ bandCount present ts
+  play-bands = bands-same present ts (afterPlay .tracks) play-long (λ i. play-follower i .band)
 
   abbrev led : List ℕ
   led = members (followWord present ts)
 
   -- a tick: what the steps and the commands leave, with the bands judged then, and what they write, the bands' records behind it
   pub tick-apart : tickFrom keys infos clock present ts
-      ≡ staged (followedFrom clock led (played .tracks) .tracks) (played .records ++ followedFrom clock led (played .tracks) .records) (played .reached)
+      ≡ staged (followedFrom clock led (afterPlay .tracks) .tracks) (afterPlay .records ++ followedFrom clock led (afterPlay .tracks) .records) (afterPlay .reached)
   unfolding tickFrom
-  tick-apart = follow-apart clock led (played .tracks) (played .records) (played .reached)
+  tick-apart = follow-apart clock led (afterPlay .tracks) (afterPlay .records) (afterPlay .reached)
 
   -- a tick writes at most so many records
   pub tick-few : length (tickFrom keys infos clock present ts .records) ≤ tickMost
   unfolding tickFrom
-  tick-few = omega (arith, play-few, follow-adds clock led played, members-most trackCount 0 (followWord present ts))
+  tick-few = omega (arith, play-few, follow-adds clock led afterPlay, members-most trackCount 0 (followWord present ts))
 
   -- and leaves as many tracks
   pub tick-long : length (tickFrom keys infos clock present ts .tracks) ≡ length ts
   unfolding tickFrom
-  tick-long = follow-long clock led played ∙ play-long
+  tick-long = follow-long clock led afterPlay ∙ play-long
 
-  -- what holds of a track before, of it stepped, of that in every other mode and of that in any band that it is judged to be in, holds of
+  -- what holds of a track before, of it one tick on where it plays, of that in every other mode and of that in any band that it is judged to be in, holds of
   -- it after the tick
-  pub tick-at : (P Q : Track → Type 0) → ((t : Track) → P t → Q t) → ((t : Track) → P t → (w : Bool) → Q (step t w))
+  pub tick-at : (P Q : Track → Type 0) → ((t : Track) → P t → Q t) → ((t : Track) → P t → t .mode ≡ PLAYING → (w : Bool) → Q (played t w))
       → ((t : Track) → Q t → (m : ℕ) → m ≤ WAITING → Q (entered t m)) → ((t m : Track) → Q t → Q (banded t (judged t m)))
       → (i : ℕ) → P (trackAt ts i) → Q (trackAt (tickFrom keys infos clock present ts .tracks) i)
   unfolding tickFrom
-  tick-at P Q f g h k i p = follow-keeps clock Q k i led played (play-at P Q f g h i p)
+  tick-at P Q f g h k i p = follow-keeps clock Q k i led afterPlay (play-at P Q f g h i p)
 
   -- the same tracks follow after it
   pub tick-follow-word : followWord present (tickFrom keys infos clock present ts .tracks) ≡ followWord present ts
   unfolding tickFrom
-  tick-follow-word = follow-word clock present led played ∙ play-follow-word
+  tick-follow-word = follow-word clock present led afterPlay ∙ play-follow-word
 
   -- no more bands are entered than records written
   pub tick-bands : bandCount present (tickFrom keys infos clock present ts .tracks) ≤ bandCount present ts + length (tickFrom keys infos clock present ts .records)
   tick-bands =
       let e = ap (λ (s : Stage). bandCount present (s .tracks)) tick-apart in
-      let r = ap (λ (s : Stage). length (s .records)) tick-apart ∙ length-append (played .records) (followedFrom clock led (played .tracks) .records) in
-      omega (arith, play-bands, follow-bands clock present led (played .tracks))
+      let r = ap (λ (s : Stage). length (s .records)) tick-apart ∙ length-append (afterPlay .records) (followedFrom clock led (afterPlay .tracks) .records) in
+      omega (arith, play-bands, follow-bands clock present led (afterPlay .tracks))
 
   -- where no record is written and a band changes, fewer are held
-  pub tick-bands-fewer : length (tickFrom keys infos clock present ts .records) ≤ 0 → (Each (Still (played .tracks)) led → ⊥)
+  pub tick-bands-fewer : length (tickFrom keys infos clock present ts .records) ≤ 0 → (Each (Still (afterPlay .tracks)) led → ⊥)
       → bandCount present (tickFrom keys infos clock present ts .tracks) < bandCount present ts
   tick-bands-fewer h n =
       let e = ap (λ (s : Stage). bandCount present (s .tracks)) tick-apart in
-      let r = ap (λ (s : Stage). length (s .records)) tick-apart ∙ length-append (played .records) (followedFrom clock led (played .tracks) .records) in
-      omega (arith, play-bands, follow-fewer clock present led (played .tracks) (follower-set present ts) (omega arith) n)
+      let r = ap (λ (s : Stage). length (s .records)) tick-apart ∙ length-append (afterPlay .records) (followedFrom clock led (afterPlay .tracks) .records) in
+      omega (arith, play-bands, follow-fewer clock present led (afterPlay .tracks) (follower-set present ts) (omega arith) n)
 
   -- a track that was sound is sound one tick later
   pub tick-sound : (before : Ticks) (i : ℕ) → Sound (trackAt ts i) before → Sound (trackAt (tickFrom keys infos clock present ts .tracks) i) (record { 0 = before .0 + 1 })
   tick-sound before =
       let after : Ticks = record { 0 = before .0 + 1 } in
-      tick-at (λ t. Sound t before) (λ t. Sound t after) (λ t s. later-sound t before s) (λ t s w. step-sound t before s w)
+      tick-at (λ t. Sound t before) (λ t. Sound t after) (λ t s. later-sound t before s) (λ t s p w. played-sound t before s p w)
       (λ t s m l. entered-sound t after s m l) (λ t m s. banded-sound (judged t m) s)
 
   -- and one that kept the rules of a board with those present keeps them
@@ -305,7 +315,7 @@ module _ (keys infos : List ℕ) (clock present : ℕ) (ts : List Track) where
   unfolding tickFrom
   tick-kept before i j k =
       let after : Ticks = record { 0 = before .0 + 1 } in
-      follow-keeps clock (λ t. Kept present j t after) (λ t m h. kept-banded (judged t m) (omega arith) (judged-most t m) h) i led played
+      follow-keeps clock (λ t. Kept present j t after) (λ t m h. kept-banded (judged t m) (omega arith) (judged-most t m) h) i led afterPlay
       (play-kept before i j k)
 
   -- and has the bounds that it had
@@ -313,7 +323,7 @@ module _ (keys infos : List ℕ) (clock present : ℕ) (ts : List Track) where
   tick-bounds i =
       let low = trackAt ts i .min in
       let high = trackAt ts i .max in
-      tick-at (Bounded low high) (Bounded low high) (λ t b. b) (step-bounded low high) (λ t b m l. entered-bounded low high t b m) (λ t m b. b) i (refl, refl)
+      tick-at (Bounded low high) (Bounded low high) (λ t b. b) (played-bounded low high) (λ t b m l. entered-bounded low high t b m) (λ t m b. b) i (refl, refl)
 
 -- ---- the rules of a board
 

@@ -15,7 +15,8 @@ use Rattle.track.specs.declared.setup.Change.the-variants as change
 use Rattle.track.specs.Rule.{STOPPED}
 use Rattle.track.specs.Grid.{PLAY, PAUSE, RESUME, gridOf}
 use Rattle.track.specs.Number.{naturalOf, onNatural}
-use Rattle.track.specs.Walk.{stops, step}
+use Rattle.track.specs.Walk.{stops}
+use Rattle.track.specs.Leap.{moves, played}
 use Rattle.board.specs.Points.{keysOf, infosOf, hasKey, waits, commandOf, targetOf}
 use Rattle.board.specs.declared.Board.{Board}
 use Rattle.board.specs.Board.{trackAt, isPresent, freshBoard}
@@ -36,9 +37,9 @@ modeOf b i = cond (isPresent (b .present) i) (trackAt (b .tracks) i .mode) STOPP
 
 -- ---- a tick
 
--- a step of a PLAYING track that finds the info d: it stops at far by itself; otherwise a wait flag takes it to WAITING
+-- a tick of a PLAYING track that finds the info d: if it makes a step, it stops at far by itself; otherwise a wait flag takes it to WAITING
 unfoldable pub stepActs : Track → ℕ → List Act
-stepActs t d = cond (stops t) (donePlay ∷ []) (cond (waits d) (doWAIT ∷ []) [])
+stepActs t d = cond (moves t) (cond (stops t) (donePlay ∷ []) (cond (waits d) (doWAIT ∷ []) [])) []
 
 -- the four mode calls, by their numbers as commands
 unfoldable pub actOf : ℕ → Act
@@ -70,12 +71,12 @@ plays b i = hasKey i (members (playingWord (b .present) (b .tracks)))
 abbrev pub infoMet : Board → ℕ → ℕ
 infoMet b i = foundBy (keysOf (b .points)) (infosOf (b .points)) i (trackAt (b .tracks) i)
 
--- its own step, if it is one; then the commands on it
+-- its own tick, if it is one; then the commands on it
 unfoldable pub tickActs : ℕ → Board → List Act
 tickActs i b =
     let t = trackAt (b .tracks) i in
     let d = infoMet b i in
-    cond (plays b i) (stepActs t d) [] ++ commandActs i (reachedIn b) (cond (plays b i) (step t (waits d)) t)
+    cond (plays b i) (stepActs t d) [] ++ commandActs i (reachedIn b) (cond (plays b i) (played t (waits d)) t)
 
 -- ---- a call
 
@@ -109,6 +110,7 @@ changeActs (change.Repeat f) = []
 changeActs (change.Direction d) = []
 changeActs (change.Action from to event) = []
 changeActs (change.Jump p) = jump ∷ []
+changeActs (change.Rate p q) = []
 
 -- what it does with its track where it is not refused
 unfoldable pub deedOf : Call → List Act

@@ -13,12 +13,14 @@ use Rattle.board.proofs.tick.Found.{found-rule}
 use Rattle.board.proofs.advance.run.Statement.{statement}
 use Rattle.board.proofs.advance.run.Tie as tie
 use Rattle.board.specs.Board.{trackAt, isPresent}
+use Rattle.board.specs.Points.{key}
 use Rattle.board.specs.Quiet.{Leapable}
 use Rattle.board.specs.Tick.{members, playingWord, followWord, bandCount, InfoRule}
 use Rattle.track.specs.declared.Track.{Track}
 use Rattle.track.specs.Rule.{Valid}
 use Rattle.track.proofs.Arrivals.{arrival-inside}
 use borrow.Author.Needs.{needs}
+use lib.Count.{trailingZeros}
 use mathlib.Core.Path.{_≡_, refl, sym, _∙_, ap, subst}
 use mathlib.Core.Bool.{true}
 use mathlib.Core.List.{List}
@@ -146,83 +148,93 @@ add-here c =
     let i = arrival-inside _ (a .valid) in
     omega (arith, c .before .arrival .ensures, a .valid .ordered)
 
-info-at-requires : tie.Need-info-at-requires Inv-loop μ-loop Inv-ticks μ-ticks
-info-at-requires c κs =
-    let t = c .before .before .before .before .before .before .before .before .before .before .before .before in
+moves-requires : tie.Need-moves-requires Inv-loop μ-loop Inv-ticks μ-ticks
+moves-requires c κs = stepping (c .before .before) .valid
+
+info-met-requires : tie.Need-info-met-requires Inv-loop μ-loop Inv-ticks μ-ticks
+info-met-requires c κs =
+    let t = c .before .before .before .before .before .before .before .before .before .before .before .before .before in
     let u = whole t in
     let s = shape (start t) in
     ((omega (arith, u .count, s .keys), omega (arith, u .count, s .infos)), u .order)
 
 cast-step-member : tie.Need-cast-step-member Inv-loop μ-loop Inv-ticks μ-ticks
-cast-step-member c = record { fits = (let l = member (c .before .before .before .before .before) .inside in omega arith) }
+cast-step-member c = record { fits = (let l = member (c .before .before .before .before .before .before) .inside in omega arith) }
 
-add-t59 : tie.Need-add-t59 Inv-loop μ-loop Inv-ticks μ-ticks
-add-t59 c =
-    let e = c .before .before .before .before .before .before .before .before .before in
+add-t60 : tie.Need-add-t60 Inv-loop μ-loop Inv-ticks μ-ticks
+add-t60 c =
+    let e = c .before .before .before .before .before .before .before .before .before .before in
     let n = short e in
-    omega (arith, c .before .before .before .before .before .before .before .before .before .before .before .smaller .ensures, whole (c .before .before .before .before .before .before .before .before .before .before .before .before .before) .clock)
+    omega (arith, c .before .before .before .before .before .before .before .before .before .before .before .before .smaller .ensures, whole (c .before .before .before .before .before .before .before .before .before .before .before .before .before .before) .clock)
 
 slice-aggregate-step-member : tie.Need-slice-aggregate-step-member Inv-loop μ-loop Inv-ticks μ-ticks
 slice-aggregate-step-member c = search needs
 
 step-member-requires : tie.Need-step-member-requires Inv-loop μ-loop Inv-ticks μ-ticks
 step-member-requires c κs =
-    let a = stepping (c .before .before .before .before) in
-    let v = c .before .before .before .before .before .before .before .loop .inv .steps in
-    let t = c .before .before .before .before .before .before .before .before .before .before .before .before .before .before in (
+    let a = stepping (c .before .before .before .before .before) in
+    let v = c .before .before .before .before .before .before .before .before .loop .inv .steps in
+    let t = c .before .before .before .before .before .before .before .before .before .before .before .before .before .before .before in (
       a .valid,
       (
         a .passes,
         (
-          subst InfoRule (sym (c .before .info-at .ensures)) (found-rule _ _ _ _ (whole-points (boardAt (board (start t)) (t .before .ticks .tracks) (t .before .ticks .clock) (t .before .ticks .held)) (t .before .ticks .inv .0 .whole)) _),
-          (omega (arith, v .few-records, v .stage-long, c .before .before .before .before .before .before .loop-test .taken), c .before .before .before .arrival .ensures),
+          subst InfoRule (sym (c .before .info-met .ensures)) (found-rule _ _ _ _ (whole-points (boardAt (board (start t)) (t .before .ticks .tracks) (t .before .ticks .clock) (t .before .ticks .held)) (t .before .ticks .inv .0 .whole)) (c .before .before .moves .result)
+              (key (trailingZeros 16 (c .before .before .before .before .before .before .before .before .loop .rest)) (c .before .before .before .before .arrival .result .0))),
+          (omega (arith, v .few-records, v .stage-long, c .before .before .before .before .before .before .before .loop-test .taken), (c .before .before .before .before .arrival .ensures, c .before .before .moves .ensures)),
         ),
       ),
     )
 
 mul-tracks : tie.Need-mul-tracks Inv-loop μ-loop Inv-ticks μ-ticks
-mul-tracks c = let l = member (c .before .before .before .before .before .before .before .before) .inside in omega arith
+mul-tracks c = let l = member (c .before .before .before .before .before .before .before .before .before) .inside in omega arith
 
 way-write-given-tracks : tie.Need-way-write-given-tracks Inv-loop μ-loop Inv-ticks μ-ticks
-way-write-given-tracks c = (omega (arith, member (c .before .before .before .before .before .before .before .before) .inside, c .before .before .before .before .before .before .before .before .before .loop .inv .long), tt)
+way-write-given-tracks c = (omega (arith, member (c .before .before .before .before .before .before .before .before .before) .inside, c .before .before .before .before .before .before .before .before .before .before .loop .inv .long), tt)
 
 mul-tracks-2 : tie.Need-mul-tracks-2 Inv-loop μ-loop Inv-ticks μ-ticks
-mul-tracks-2 c = let l = member (c .before .before .before .before .before .before .before .before .before) .inside in omega arith
+mul-tracks-2 c = let l = member (c .before .before .before .before .before .before .before .before .before .before) .inside in omega arith
 
 way-write-given-tracks-2 : tie.Need-way-write-given-tracks-2 Inv-loop μ-loop Inv-ticks μ-ticks
-way-write-given-tracks-2 c = (omega (arith, member (c .before .before .before .before .before .before .before .before .before) .inside, c .before .before .before .before .before .before .before .before .before .before .loop .inv .long), tt, tt)
+way-write-given-tracks-2 c = (omega (arith, member (c .before .before .before .before .before .before .before .before .before .before) .inside, c .before .before .before .before .before .before .before .before .before .before .before .loop .inv .long), tt, tt)
 
 mul-tracks-3 : tie.Need-mul-tracks-3 Inv-loop μ-loop Inv-ticks μ-ticks
-mul-tracks-3 c = let l = member (c .before .before .before .before .before .before .before .before .before .before) .inside in omega arith
+mul-tracks-3 c = let l = member (c .before .before .before .before .before .before .before .before .before .before .before) .inside in omega arith
 
 way-write-given-tracks-3 : tie.Need-way-write-given-tracks-3 Inv-loop μ-loop Inv-ticks μ-ticks
-way-write-given-tracks-3 c = (omega (arith, member (c .before .before .before .before .before .before .before .before .before .before) .inside, c .before .before .before .before .before .before .before .before .before .before .before .loop .inv .long), tt, tt)
+way-write-given-tracks-3 c = (omega (arith, member (c .before .before .before .before .before .before .before .before .before .before .before) .inside, c .before .before .before .before .before .before .before .before .before .before .before .before .loop .inv .long), tt, tt)
 
 mul-tracks-4 : tie.Need-mul-tracks-4 Inv-loop μ-loop Inv-ticks μ-ticks
-mul-tracks-4 c = let l = member (c .before .before .before .before .before .before .before .before .before .before .before) .inside in omega arith
+mul-tracks-4 c = let l = member (c .before .before .before .before .before .before .before .before .before .before .before .before) .inside in omega arith
 
 way-write-given-tracks-4 : tie.Need-way-write-given-tracks-4 Inv-loop μ-loop Inv-ticks μ-ticks
-way-write-given-tracks-4 c = (omega (arith, member (c .before .before .before .before .before .before .before .before .before .before .before) .inside, c .before .before .before .before .before .before .before .before .before .before .before .before .loop .inv .long), tt)
+way-write-given-tracks-4 c = (omega (arith, member (c .before .before .before .before .before .before .before .before .before .before .before .before) .inside, c .before .before .before .before .before .before .before .before .before .before .before .before .before .loop .inv .long), tt)
+
+mul-tracks-5 : tie.Need-mul-tracks-5 Inv-loop μ-loop Inv-ticks μ-ticks
+mul-tracks-5 c = let l = member (c .before .before .before .before .before .before .before .before .before .before .before .before .before) .inside in omega arith
+
+way-write-given-tracks-5 : tie.Need-way-write-given-tracks-5 Inv-loop μ-loop Inv-ticks μ-ticks
+way-write-given-tracks-5 c = (omega (arith, member (c .before .before .before .before .before .before .before .before .before .before .before .before .before) .inside, c .before .before .before .before .before .before .before .before .before .before .before .before .before .before .loop .inv .long), tt)
 
 slice-aggregate-note : tie.Need-slice-aggregate-note Inv-loop μ-loop Inv-ticks μ-ticks
-slice-aggregate-note c = search needs
+slice-aggregate-note c = sym (c .before .before .before .before .before .before .before .before .before .before .before .before .before .before .before .before .loop .inv .steps .reached-long)
 
 note-requires : tie.Need-note-requires Inv-loop μ-loop Inv-ticks μ-ticks
 note-requires c κs =
-    let v = c .before .before .before .before .before .before .before .before .before .before .before .before .before .before .loop .inv .steps in
-    omega (arith, v .few-reached, v .reached-long, c .before .before .before .before .before .before .before .before .before .before .before .before .before .loop-test .taken)
+    let v = c .before .before .before .before .before .before .before .before .before .before .before .before .before .before .before .before .loop .inv .steps in
+    omega (arith, v .few-reached, v .reached-long, c .before .before .before .before .before .before .before .before .before .before .before .before .before .before .before .loop-test .taken)
 
 needs-more-requires : tie.Need-needs-more-requires Inv-loop μ-loop Inv-ticks μ-ticks
 needs-more-requires c κs = search needs
 
 cast-rest : tie.Need-cast-rest Inv-loop μ-loop Inv-ticks μ-ticks
-cast-rest c = record { fits = (let l = member (c .before .before .before .before .before .before .before .before .before .before .before .before .before .before .before .before .before) .inside in omega arith) }
+cast-rest c = record { fits = (let l = member (c .before .before .before .before .before .before .before .before .before .before .before .before .before .before .before .before .before .before .before) .inside in omega arith) }
 
 shl-rest : tie.Need-shl-rest Inv-loop μ-loop Inv-ticks μ-ticks
-shl-rest c = omega (arith, member (c .before .before .before .before .before .before .before .before .before .before .before .before .before .before .before .before .before) .inside)
+shl-rest c = omega (arith, member (c .before .before .before .before .before .before .before .before .before .before .before .before .before .before .before .before .before .before .before) .inside)
 
 sub-rest : tie.Need-sub-rest Inv-loop μ-loop Inv-ticks μ-ticks
-sub-rest c = omega (arith, member (c .before .before .before .before .before .before .before .before .before .before .before .before .before .before .before .before .before) .under)
+sub-rest c = omega (arith, member (c .before .before .before .before .before .before .before .before .before .before .before .before .before .before .before .before .before .before .before) .under)
 
 sub-left : tie.Need-sub-left Inv-loop μ-loop Inv-ticks μ-ticks
 sub-left c = search needs
@@ -233,8 +245,8 @@ loop-less c = search needs
 loop-again : tie.Need-loop-again Inv-loop μ-loop Inv-ticks μ-ticks
 loop-again c = step-stored (c .before)
 
-add-t83 : tie.Need-add-t83 Inv-loop μ-loop Inv-ticks μ-ticks
-add-t83 c =
+add-t86 : tie.Need-add-t86 Inv-loop μ-loop Inv-ticks μ-ticks
+add-t86 c =
     let n = short (c .before .before .before .before .before) in
     omega (arith, c .before .before .before .before .before .before .before .smaller .ensures, whole (c .before .before .before .before .before .before .before .before .before) .clock)
 
@@ -252,8 +264,8 @@ run-commands-requires c κs =
       (turning-rule _ _ _ _ _ (begins-word (c .before .before .before .before .before)) _ _ _ _ _ _ _ _ (k .inv) (c .before .before .before .loop-test .left), omega (arith, v .few-reached, v .few-records, v .stage-long)),
     )
 
-add-t90 : tie.Need-add-t90 Inv-loop μ-loop Inv-ticks μ-ticks
-add-t90 c =
+add-t93 : tie.Need-add-t93 Inv-loop μ-loop Inv-ticks μ-ticks
+add-t93 c =
     let j = leap-at (c .before .before .before .before) in
     let n = short (c .before .before .before .before .before .before) in
     omega (arith, j .before .smaller .ensures, whole (turn j) .clock)
@@ -332,11 +344,11 @@ returns-2 : tie.Need-returns-2 Inv-loop μ-loop Inv-ticks μ-ticks
 returns-2 c = going-ends _ _ _ _ _ _ _ _ _ (c .before .before .ticks .inv .0) (c .before .ticks-test .taken) (c .if1 .taken)
 
 same-length-3 : tie.Need-same-length-3 Inv-loop μ-loop Inv-ticks μ-ticks
-same-length-3 c = c .before .before .before .before .before .before .before .before .before .before .before .before .before .before .before .before .before .before .before .before .before .before .before .before .before .before .ticks .inv .0 .long
+same-length-3 c = c .before .before .before .before .before .before .before .before .before .before .before .before .before .before .before .before .before .before .before .before .before .before .before .before .before .before .before .before .ticks .inv .0 .long
 
 returns-3 : tie.Need-returns-3 Inv-loop μ-loop Inv-ticks μ-ticks
 returns-3 c =
-    let g = c .before .before .before .before .before .before .before .before .before .before .before .before .before .before .before .before .before .before .before in
+    let g = c .before .before .before .before .before .before .before .before .before .before .before .before .before .before .before .before .before .before .before .before .before in
     let v = step-stored (c .before) in
     let o = over g _ (turning-over _ _ _ _ _ (begins-word g) _ _ _ _ _ _ _ _ v) in
     full g (omega (arith, c .if6 .taken, v .steps .few-records)) (omega (arith, c .if6 .taken))
@@ -383,9 +395,10 @@ run-spec =
     cast-here
     mul-here
     add-here
-    info-at-requires
+    moves-requires
+    info-met-requires
     cast-step-member
-    add-t59
+    add-t60
     slice-aggregate-step-member
     step-member-requires
     mul-tracks
@@ -396,6 +409,8 @@ run-spec =
     way-write-given-tracks-3
     mul-tracks-4
     way-write-given-tracks-4
+    mul-tracks-5
+    way-write-given-tracks-5
     slice-aggregate-note
     note-requires
     needs-more-requires
@@ -405,11 +420,11 @@ run-spec =
     sub-left
     loop-less
     loop-again
-    add-t83
+    add-t86
     slice-aggregate-run-commands
     slice-aggregate-run-commands-2
     run-commands-requires
-    add-t90
+    add-t93
     slice-aggregate-judge-bands
     judge-bands-requires
     mul-commit

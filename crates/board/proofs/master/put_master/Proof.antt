@@ -59,11 +59,11 @@ returns-4 c =
     put-many (s .args .board) (s .args .track) (s .args .master) (s .args .pairs .now) (p .if1 .left) (c .before .before .before .before .if2 .left)
     (c .before .before .before .ranged .ensures) (not-false _ (c .before .before .if3 .left)) (c .before .if4 .taken) (c .refused4 .ensures)
 
-row-of-requires : tie.Need-row-of-requires
-row-of-requires c κs = search needs
+thresholds-of-requires : tie.Need-thresholds-of-requires
+thresholds-of-requires c κs = search needs
 
-row-of-requires-2 : tie.Need-row-of-requires-2
-row-of-requires-2 c κs = search needs
+events-of-requires : tie.Need-events-of-requires
+events-of-requires c κs = search needs
 
 pairs-kept-requires : tie.Need-pairs-kept-requires
 pairs-kept-requires c κs = search needs
@@ -84,7 +84,7 @@ returns-5 c =
     let s = p .before .before .before in
     put-falling (s .args .board) (s .args .track) (s .args .master) (s .args .pairs .now) (p .if1 .left) (two .if2 .left)
     (q .ranged .ensures) (not-false _ (three .if3 .left)) (four .if4 .left)
-    (x .row-of .ensures) (e .row-of2 .ensures) (k .pairs-kept .ensures) (not-true _ (c .before .if5 .taken)) (c .refused5 .ensures)
+    (x .thresholds-of .ensures) (e .events-of .ensures) (k .pairs-kept .ensures) (not-true _ (c .before .if5 .taken)) (c .refused5 .ensures)
 
 master-named-requires : tie.Need-master-named-requires
 master-named-requires c κs = search needs
@@ -119,7 +119,7 @@ returns-6 c =
     let s = p .before .before .before in
     put-done (s .args .board) (s .args .track) (s .args .master) (s .args .pairs .now) (p .if1 .left) (two .if2 .left)
     (q .ranged .ensures) (not-false _ (three .if3 .left)) (four .if4 .left)
-    (x .row-of .ensures) (e .row-of2 .ensures) (k .pairs-kept .ensures) (not-false _ (five .if5 .left))
+    (x .thresholds-of .ensures) (e .events-of .ensures) (k .pairs-kept .ensures) (not-false _ (five .if5 .left))
     (c .before .before .master-named .ensures) (c .before .following .ensures) (c .accepted .ensures)
 
 pub put-master-spec : {M : Type 1} → statement M
@@ -137,8 +137,8 @@ put-master-spec =
     returns-3
     refused-requires-4
     returns-4
-    row-of-requires
-    row-of-requires-2
+    thresholds-of-requires
+    events-of-requires
     pairs-kept-requires
     refused-requires-5
     returns-5

@@ -37,11 +37,11 @@ mul-t c = let l = low c in omega arith
 array-copy-out-t : tie.Need-array-copy-out-t Inv-loop μ-loop
 array-copy-out-t c = let l = low c in omega arith
 
-cast-quiet-steps : tie.Need-cast-quiet-steps Inv-loop μ-loop
-cast-quiet-steps c = let l = low (c .before) in omega arith
+cast-quiet-ticks : tie.Need-cast-quiet-ticks Inv-loop μ-loop
+cast-quiet-ticks c = let l = low (c .before) in omega arith
 
-quiet-steps-requires : tie.Need-quiet-steps-requires Inv-loop μ-loop
-quiet-steps-requires c κs =
+quiet-ticks-requires : tie.Need-quiet-ticks-requires Inv-loop μ-loop
+quiet-ticks-requires c κs =
     let l = low (c .before) in
     let s = c .before .before .before .before .before in
     (leapable-next (c .before .before .before .before .before .args .t1) _ _ _ (l .rest) (c .before .before .loop .inv .1) .0 .valid, (l .inside, s .pre .1))
@@ -69,7 +69,7 @@ loop-again c =
       l .fits,
       leapable-next (c .before .before .before .before .before .before .before .args .t1) _ _ _ (l .rest) (b .1) .1,
       omega arith,
-      λ r h. b .3 r (fewest-next _ _ _ _ (l .rest) _ [] _ _ r (b .2) (c .before .quiet-steps .ensures) s h),
+      λ r h. b .3 r (fewest-next _ _ _ _ (l .rest) _ [] _ _ r (b .2) (c .before .quiet-ticks .ensures) s h),
     )
 
 returns : tie.Need-returns Inv-loop μ-loop
@@ -85,8 +85,8 @@ quiet-players-spec =
     cast-i
     mul-t
     array-copy-out-t
-    cast-quiet-steps
-    quiet-steps-requires
+    cast-quiet-ticks
+    quiet-ticks-requires
     smaller-requires
     cast-left
     shl-left

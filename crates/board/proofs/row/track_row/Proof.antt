@@ -4,7 +4,7 @@ use Rattle.board.proofs.row.track_row.Statement.{statement}
 use Rattle.board.proofs.row.track_row.Tie as tie
 use Rattle.board.specs.Call.{trackValues}
 use Rattle.board.specs.Log.{writeAt}
-use Rattle.board.specs.Row.{cellsAt, masterAt, thresholdsAt, eventsAt}
+use Rattle.board.specs.Row.{cellsAt, masterAt, thresholdsAt, eventsAt, rateAt}
 use Rattle.track.specs.Rule.{cellCount, thresholdCount}
 use borrow.Author.Needs.{needs}
 use lib.ListN.{length}
@@ -32,22 +32,35 @@ with-band-requires c κs = search needs
 with-four-requires : tie.Need-with-four-requires
 with-four-requires c κs = search needs
 
+widened-requires : tie.Need-widened-requires
+widened-requires c κs = search needs
+
 with-four-requires-2 : tie.Need-with-four-requires-2
 with-four-requires-2 c κs = search needs
 
+with-rate-requires : tie.Need-with-rate-requires
+with-rate-requires c κs = search needs
+
 returns : tie.Need-returns
 returns c =
-    let t = c .before .before .before .before .before .before .before .before .args .t in
-    let cells : length (t .actions) ≡ cellCount = cells-long (c .before .before .before .before .before .before .before) in
-    let limits : length (t .thresholds) ≡ thresholdCount = thresholds-long (c .before .before .before .before .before .before) in
-    let events : length (t .events) ≡ thresholdCount = events-long (c .before .before .before .before .before) in
+    let told = c .before in
+    let four = told .before .before in
+    let band = four .before in
+    let head = band .before .before in
+    let start = head .before .before .before .before in
+    let t = start .args .t in
+    let cells : length (t .actions) ≡ cellCount = cells-long (head .before .before .before) in
+    let limits : length (t .thresholds) ≡ thresholdCount = thresholds-long (head .before .before) in
+    let events : length (t .events) ≡ thresholdCount = events-long (head .before) in
     let named : List ℕ = t .master ∷ t .band ∷ [] in
-    c .with-four2 .ensures
-    ∙ ap (λ (r : List ℕ). writeAt r eventsAt (t .events)) (c .before .with-four .ensures)
-    ∙ ap (λ (r : List ℕ). writeAt (writeAt r thresholdsAt (t .thresholds)) eventsAt (t .events)) (c .before .before .with-band .ensures)
-    ∙ ap (λ (r : List ℕ). writeAt (writeAt (writeAt r masterAt named) thresholdsAt (t .thresholds)) eventsAt (t .events)) (c .before .before .before .with-cells .ensures)
-    ∙ ap (λ (r : List ℕ). writeAt (writeAt (writeAt (writeAt r cellsAt (t .actions)) masterAt named) thresholdsAt (t .thresholds)) eventsAt (t .events))
-    (c .before .before .before .before .track-head .ensures)
+    let ended : List ℕ → List ℕ = λ r. writeAt (writeAt r eventsAt (t .events)) rateAt (t .steps ∷ t .ticks ∷ t .remainder ∷ []) in
+    c .with-rate .ensures
+    ∙ ap (λ (r : List ℕ). writeAt r rateAt (t .steps ∷ t .ticks ∷ t .remainder ∷ []))
+    (told .with-four2 .ensures ∙ ap (writeAt (four .with-four .result) eventsAt) (told .before .widened .ensures))
+    ∙ ap ended (four .with-four .ensures)
+    ∙ ap (λ (r : List ℕ). ended (writeAt r thresholdsAt (t .thresholds))) (band .with-band .ensures)
+    ∙ ap (λ (r : List ℕ). ended (writeAt (writeAt r masterAt named) thresholdsAt (t .thresholds))) (band .before .with-cells .ensures)
+    ∙ ap (λ (r : List ℕ). ended (writeAt (writeAt (writeAt r cellsAt (t .actions)) masterAt named) thresholdsAt (t .thresholds))) (head .track-head .ensures)
     ∙ track-numbers (trackValues t) cells limits events
 
 pub track-row-spec : {M : Type 1} → statement M
@@ -58,5 +71,7 @@ track-row-spec =
     with-cells-requires
     with-band-requires
     with-four-requires
+    widened-requires
     with-four-requires-2
+    with-rate-requires
     returns)

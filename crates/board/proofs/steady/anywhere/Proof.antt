@@ -1,4 +1,4 @@
-use Rattle.board.proofs.steady.Exits.{asked}
+use Rattle.board.proofs.steady.Exits.{asked-still}
 use Rattle.board.proofs.steady.Steadying.{any-within}
 use Rattle.board.proofs.steady.anywhere.Statement.{statement}
 use Rattle.board.proofs.steady.anywhere.Tie as tie
@@ -26,8 +26,8 @@ add-stay-2 c = search needs
 stay-requires : tie.Need-stay-requires
 stay-requires c κs =
     let p = c .before .before .before .before .pre .1 .1 in (
-      asked _ _ _ _ _ _ (omega arith) (omega arith) (omega arith) (omega arith) (p .0) (p .1),
-      asked _ _ _ _ _ _ (omega arith) (omega arith) (omega arith) (omega arith) (p .0) (p .1),
+      asked-still _ _ _ _ _ (omega arith) (omega arith) (omega arith) (p .0) (p .1),
+      asked-still _ _ _ _ _ (omega arith) (omega arith) (omega arith) (p .0) (p .1),
     )
 
 returns : tie.Need-returns

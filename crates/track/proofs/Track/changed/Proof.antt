@@ -58,6 +58,12 @@ enum-known-change-7 c = search needs
 jump-requires : tie.Need-jump-requires
 jump-requires c κs = search needs
 
+enum-known-change-8 : tie.Need-enum-known-change-8
+enum-known-change-8 c = search needs
+
+set-rate-requires : tie.Need-set-rate-requires
+set-rate-requires c κs = search needs
+
 returns-2 : tie.Need-returns-2
 unfolding setBy
 returns-2 c =
@@ -116,6 +122,15 @@ returns-8 c =
     changed-by _ _ (c .before .before .before .before .before .permits .ensures) (not-false _ (c .before .before .before .before .if1 .left)) (k .1)
     (simp (toZ-ofZ {w = w64} {z = k .0 .0} (record { sfits = g .0 .1 })) at (c .jump .ensures))
 
+returns-9 : tie.Need-returns-9
+unfolding setBy
+returns-9 c =
+    let g = c .before .known-told8 .given in
+    let k = c .before .before .change8 .given in
+    changed-by _ _ (c .before .before .before .before .before .permits .ensures) (not-false _ (c .before .before .before .before .if1 .left)) (k .1)
+    (simp (toZ-ofZ {w = w64} {z = k .0 .0} (record { sfits = g .0 .1 })) at
+    (simp (toZ-ofZ {w = w64} {z = k .0 .1 .0} (record { sfits = g .1 .0 .1 })) at (c .set-rate .ensures)))
+
 pub changed-spec : {M : Type 1} → statement M
 changed-spec =
     tie.close
@@ -137,10 +152,13 @@ changed-spec =
     set-action-requires
     enum-known-change-7
     jump-requires
+    enum-known-change-8
+    set-rate-requires
     returns-2
     returns-3
     returns-4
     returns-5
     returns-6
     returns-7
-    returns-8)
+    returns-8
+    returns-9)

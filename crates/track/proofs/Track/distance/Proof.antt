@@ -1,4 +1,4 @@
-use Rattle.track.proofs.Leaps.{phase-small}
+use Rattle.track.proofs.Strides.{phase-small}
 use Rattle.track.proofs.Track.distance.Statement.{statement}
 use Rattle.track.proofs.Track.distance.Tie as tie
 use borrow.Author.Needs.{needs}

@@ -1,68 +1,29 @@
-use Prim.Native.Nat.{_+_, _-_}
-use Rattle.track.proofs.Arrivals.{next-small}
 use Rattle.track.proofs.Exits.{leap-none, leap-some}
+use Rattle.track.proofs.Leaps.{steps-most}
 use Rattle.track.proofs.Track.leap.Statement.{statement}
 use Rattle.track.proofs.Track.leap.Tie as tie
-use borrow.Author.Needs.{needs}
-use native.Mathlib.Nat.{mod-lt, div-le-self}
+use Rattle.track.specs.Leap.{stepsIn, remainderAfter}
+use mathlib.Core.Path.{ap}
 use native.Mathlib.Omega.{arith}
 
 returns : tie.Need-returns
-returns c = leap-none _ (c .before .pre .0) (c .if1 .taken)
+returns c = leap-none _ (c .before .before .pre .0) (c .if1 .taken)
 
-span-requires : tie.Need-span-requires
-span-requires c κs = search needs
+ticked-requires : tie.Need-ticked-requires
+ticked-requires c κs =
+    let s = c .before .before in
+    let r = s .pre .0 .rate in
+    ((r .below, (r .some, r .most)), (r .last, s .pre .1 .1))
 
-next-requires : tie.Need-next-requires
-next-requires c κs = search needs
-
-sub-place : tie.Need-sub-place
-sub-place c = search needs
-
-add-place : tie.Need-add-place
-add-place c = omega (arith, next-small (c .before .before .before .args .self) (c .before .before .before .pre .0))
-
-rem-place : tie.Need-rem-place
-rem-place c = search needs
-
-place-requires : tie.Need-place-requires
-place-requires c κs =
+stride-requires : tie.Need-stride-requires
+unfolding stepsIn
+stride-requires c κs =
     let s = c .before .before .before in
-    (s .pre .0, omega (arith, mod-lt (c .next .result + (s .args .n .0 - 1)) {m = c .before .span .result} (omega arith)))
-
-add-t9 : tie.Need-add-t9
-add-t9 c = omega (arith, next-small (c .before .before .before .before .args .self) (c .before .before .before .before .pre .0))
-
-div-t11 : tie.Need-div-t11
-div-t11 c = search needs
-
-add-t10 : tie.Need-add-t10
-add-t10 c =
-    omega (
-      arith,
-      next-small (c .before .before .before .before .before .args .self) (c .before .before .before .before .before .pre .0),
-      div-le-self (c .before .before .next .result + c .before .before .before .before .before .args .n .0) (c .before .before .before .span .result),
-    )
-
-moved-requires : tie.Need-moved-requires
-moved-requires c κs = search needs
+    (s .pre .0, (s .pre .1 .0, omega (arith, ap (λ r. r .steps) (c .ticked .ensures), steps-most (s .args .self) (s .pre .0) (s .args .n .0))))
 
 returns-2 : tie.Need-returns-2
-returns-2 c = leap-some _ _ (c .before .before .before .before .span .ensures) (c .before .before .before .next .ensures) (c .before .before .before .before .before .if1 .left) (c .before .before .place .ensures) (c .moved .ensures)
+unfolding stepsIn remainderAfter
+returns-2 c = leap-some _ _ (ap (λ r. r .steps) (c .before .ticked .ensures)) (ap (λ r. r .remainder) (c .before .ticked .ensures)) (c .stride .ensures)
 
 pub leap-spec : {M : Type 1} → statement M
-leap-spec =
-    tie.close
-    (tie.spec
-    returns
-    span-requires
-    next-requires
-    sub-place
-    add-place
-    rem-place
-    place-requires
-    add-t9
-    div-t11
-    add-t10
-    moved-requires
-    returns-2)
+leap-spec = tie.close (tie.spec returns ticked-requires stride-requires returns-2)

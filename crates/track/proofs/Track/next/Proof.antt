@@ -1,7 +1,7 @@
 use Rattle.track.proofs.Arrivals.{arrival-inside}
 use Rattle.track.proofs.Track.next.Statement.{statement}
 use Rattle.track.proofs.Track.next.Tie as tie
-use Rattle.track.specs.Leap.{next, phase}
+use Rattle.track.specs.Stride.{next, phase}
 use borrow.Author.Needs.{needs}
 use mathlib.Core.Path.{_∙_, ap}
 use native.Mathlib.Omega.{arith}

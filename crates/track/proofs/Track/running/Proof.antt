@@ -1,5 +1,5 @@
 use Rattle.track.proofs.Exits.{runs-ever, runs-long, runs-short}
-use Rattle.track.proofs.Leaps.{stop-later}
+use Rattle.track.proofs.Strides.{stop-later}
 use Rattle.track.proofs.Track.running.Statement.{statement}
 use Rattle.track.proofs.Track.running.Tie as tie
 use borrow.Author.Needs.{needs}
@@ -20,12 +20,12 @@ cast-if2 c = search needs
 returns-2 : tie.Need-returns-2
 returns-2 c = runs-long _ (c .before .before .if1 .left) (c .before .stop-step .ensures) (c .if2 .taken)
 
-cast-t5 : tie.Need-cast-t5
-cast-t5 c = search needs
+cast-result : tie.Need-cast-result
+cast-result c = search needs
 
 returns-3 : tie.Need-returns-3
 returns-3 c = runs-short _ (c .before .before .if1 .left) (c .before .stop-step .ensures) (c .if2 .left)
 
 pub running-spec : {M : Type 1} → statement M
 running-spec =
-    tie.close (tie.spec returns stop-step-requires sub-before cast-if2 returns-2 cast-t5 returns-3)
+    tie.close (tie.spec returns stop-step-requires sub-before cast-if2 returns-2 cast-result returns-3)

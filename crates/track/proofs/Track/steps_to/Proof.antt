@@ -1,6 +1,6 @@
 use Rattle.track.proofs.Arrivals.{next-small}
 use Rattle.track.proofs.Exits.{steps-up, steps-round}
-use Rattle.track.proofs.Leaps.{phase-small}
+use Rattle.track.proofs.Strides.{phase-small}
 use Rattle.track.proofs.Track.steps_to.Statement.{statement}
 use Rattle.track.proofs.Track.steps_to.Tie as tie
 use borrow.Author.Needs.{needs}
@@ -15,13 +15,13 @@ phase-requires c κs = search needs
 span-requires : tie.Need-span-requires
 span-requires c κs = search needs
 
-add-t9 : tie.Need-add-t9
-add-t9 c =
+add-result : tie.Need-add-result
+add-result c =
     let s = c .before .before .before .before in
     omega (arith, phase-small (s .args .self) (s .pre .0) (s .args .l .0) (s .pre .1 .0) (s .pre .1 .1))
 
-sub-t10 : tie.Need-sub-t10
-sub-t10 c =
+sub-result : tie.Need-sub-result
+sub-result c =
     let s = c .before .before .before .before in
     omega (arith, next-small (s .args .self) (s .pre .0))
 
@@ -34,4 +34,4 @@ returns-2 c = steps-round _ _ (c .before .before .before .next .ensures) (c .bef
 pub steps-to-spec : {M : Type 1} → statement M
 steps-to-spec =
     tie.close
-    (tie.spec next-requires phase-requires span-requires add-t9 sub-t10 returns returns-2)
+    (tie.spec next-requires phase-requires span-requires add-result sub-result returns returns-2)

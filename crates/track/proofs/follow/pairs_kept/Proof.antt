@@ -4,7 +4,7 @@ use mathlib.Core.Path.{_≡_, refl, _∙_}
 use native.Mathlib.Omega.{arith}
 use borrow.Author.Tests.{not-true, not-false}
 use Rattle.track.specs.Follow.{pairsTest}
-use Rattle.track.proofs.Follows.{pairs-next, pairs-bad, pairs-more, pairs-none, pairs-end}
+use Rattle.track.proofs.Follows.{pairs-next, pairs-bad, pairs-none, pairs-end}
 use borrow.Author.Needs.{needs}
 use Rattle.track.proofs.follow.pairs_kept.Statement.{statement}
 use Rattle.track.proofs.follow.pairs_kept.Tie as tie
@@ -41,33 +41,21 @@ zeros-from-requires c κs = search needs
 
 returns : tie.Need-returns Inv-loop μ-loop
 returns c =
-    let s = c .before .before .before .before .before in
-    let l = c .before .before .before .before .loop in
-    pairs-more (l .low) (s .args .t1) (s .args .t2) (l .k)
-    (omega (arith, long s)) (omega (arith, long-events s))
-    (c .before .before .if1 .taken) (c .before .zeros-from .ensures) (not-true _ (c .if2 .taken)) ∙ l .inv .1
-
-zeros-from-requires-2 : tie.Need-zeros-from-requires-2 Inv-loop μ-loop
-zeros-from-requires-2 c κs = search needs
-
-returns-2 : tie.Need-returns-2 Inv-loop μ-loop
-returns-2 c =
-    let s = c .before .before .before .before .before .before in
-    let l = c .before .before .before .before .before .loop in
+    let s = c .before .before .before .before in
+    let l = c .before .before .before .loop in
     pairs-none (l .low) (s .args .t1) (s .args .t2) (l .k)
-    (omega (arith, long s)) (omega (arith, long-events s))
-    (c .before .before .before .if1 .taken) (c .before .before .zeros-from .ensures) (not-false _ (c .before .if2 .left)) (c .zeros-from2 .ensures) ∙ l .inv .1
+    (omega (arith, long s)) (omega (arith, long-events s)) (c .before .if1 .taken) (c .zeros-from .ensures) ∙ l .inv .1
 
 pair-kept-requires : tie.Need-pair-kept-requires Inv-loop μ-loop
 pair-kept-requires c κs = search needs
 
-returns-3 : tie.Need-returns-3 Inv-loop μ-loop
-returns-3 c =
+returns-2 : tie.Need-returns-2 Inv-loop μ-loop
+returns-2 c =
     let s = c .before .before .before .before .before in
     let l = c .before .before .before .before .loop in
     pairs-bad (l .low) (s .args .t1) (s .args .t2) (l .k)
     (omega (arith, long s)) (omega (arith, long-events s))
-    (c .before .before .if1 .left) (c .before .pair-kept .ensures) (not-true _ (c .if3 .taken)) ∙ l .inv .1
+    (c .before .before .if1 .left) (c .before .pair-kept .ensures) (not-true _ (c .if2 .taken)) ∙ l .inv .1
 
 add-k : tie.Need-add-k Inv-loop μ-loop
 add-k c = search needs
@@ -81,11 +69,11 @@ loop-again c =
     let l = c .before .before .before .before .loop in (
       omega arith,
       pairs-next (l .low) (s .args .t1) (s .args .t2) (l .k)
-          (omega (arith, long s)) (omega (arith, long-events s)) (c .before .before .if1 .left) (c .before .pair-kept .ensures) (not-false _ (c .if3 .left)) ∙ l .inv .1,
+          (omega (arith, long s)) (omega (arith, long-events s)) (c .before .before .if1 .left) (c .before .pair-kept .ensures) (not-false _ (c .if2 .left)) ∙ l .inv .1,
     )
 
-returns-4 : tie.Need-returns-4 Inv-loop μ-loop
-returns-4 c =
+returns-3 : tie.Need-returns-3 Inv-loop μ-loop
+returns-3 c =
     let s = c .before .before in
     let l = c .before .loop in
     pairs-end (l .low) (s .args .t1) (s .args .t2) (l .k) (omega (arith, long s)) (omega (arith, long-events s)) ∙ l .inv .1
@@ -103,11 +91,9 @@ pairs-kept-spec =
     array-read-e
     zeros-from-requires
     returns
-    zeros-from-requires-2
-    returns-2
     pair-kept-requires
-    returns-3
+    returns-2
     add-k
     loop-less
     loop-again
-    returns-4)
+    returns-3)

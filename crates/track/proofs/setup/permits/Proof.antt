@@ -41,6 +41,9 @@ enum-told-7 c = search needs
 settled-requires-5 : tie.Need-settled-requires-5
 settled-requires-5 c κs = search needs
 
+enum-told-8 : tie.Need-enum-told-8
+enum-told-8 c = search needs
+
 returns : tie.Need-returns
 unfolding permits
 returns c = sym (ap (λ (x : Change). permits x (c .before .before .args .mode)) (c .enum-told .given .1))
@@ -69,6 +72,10 @@ returns-7 : tie.Need-returns-7
 unfolding permits
 returns-7 c = c .settled5 .ensures ∙ sym (ap (λ (x : Change). permits x (c .before .before .before .args .mode)) (c .before .enum-told7 .given .1))
 
+returns-8 : tie.Need-returns-8
+unfolding permits
+returns-8 c = sym (ap (λ (x : Change). permits x (c .before .before .args .mode)) (c .enum-told8 .given .1))
+
 pub permits-spec : {M : Type 1} → statement M
 permits-spec =
     tie.close
@@ -85,10 +92,12 @@ permits-spec =
     settled-requires-4
     enum-told-7
     settled-requires-5
+    enum-told-8
     returns
     returns-2
     returns-3
     returns-4
     returns-5
     returns-6
-    returns-7)
+    returns-7
+    returns-8)

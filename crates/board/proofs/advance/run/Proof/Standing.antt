@@ -22,14 +22,15 @@ use Rattle.board.specs.Steady.{SteadyFor}
 use Rattle.board.specs.Quiet.{QuietFor, masterOf, Fewest, WithMaster, CanLeap, Leapable, leapTracks, leapInto}
 use Rattle.board.specs.declared.Board.{Board}
 use Rattle.board.specs.Board.{Unbroken, trackAt, boardOf, Shaped}
-use Rattle.board.specs.Tick.{Stage, playingWord, followWord, members, tickMost}
+use Rattle.board.specs.Tick.{Stage, foundBy, playingWord, followWord, members, tickMost}
 use Rattle.track.specs.declared.Track.{Track}
 use Rattle.track.specs.Rule.{clockEnd}
+use Rattle.track.specs.Leap.{moves}
 use borrow.Author.Needs.{needs}
 use lib.Count.{trailingZeros}
 use lib.ListN.{length}
 use mathlib.Core.List.{List, []}
-use mathlib.Core.Bool.{true, true≢false}
+use mathlib.Core.Bool.{Bool, true, cond, true≢false}
 use mathlib.Core.Logic.{⊎-elim}
 use mathlib.Core.Path.{_≡_, sym, _∙_, ap, subst}
 use native.Mathlib.Omega.{arith}
@@ -245,26 +246,30 @@ stepping c = subst CanLeap (sym (c .leap .ensures)) (turning-leapt _ _ _ _ _ _ _
 -- a member is stepped: its fields stored, its records staged, its point noted
 pub step-stored : (c : tie.After-needs-more Inv-loop μ-loop Inv-ticks μ-ticks) →
     let n = c .before .before .note in
-    let r = c .before .before .before .before .before .before .before .before .before .step-member in
-    let l = c .before .before .before .before .before .before .before .before .before .before .before .before .before .before .before .before .before .loop in
-    let g = c .before .before .before .before .before .before .before .before .before .before .before .before .before .before .before .before .before .before in
+    let r = c .before .before .before .before .before .before .before .before .before .before .step-member in
+    let l = c .before .before .before .before .before .before .before .before .before .before .before .before .before .before .before .before .before .before .before .loop in
+    let g = c .before .before .before .before .before .before .before .before .before .before .before .before .before .before .before .before .before .before .before .before in
     let s = entry g .args in
     let k = turn (leap-at g) .before .ticks in
     Turning (parts (s .present) (s .keys .now) (s .infos .now) (s .n)) (g .if4 .tracks) (k .clock + leap-at g .if2 .skipped) (k .word) (g .if4 .skipped)
-    (r .last .1 .1 .1 .1 .1 .0) (n .last .0) (stored (l .tracks) (trailingZeros 16 (l .rest)) (r .result)) (cleared (l .rest)) (l .left - 1) (r .result .count) (n .result)
+    (r .last .1 .1 .1 .1 .1 .1 .0) (n .last .0) (stored (l .tracks) (trailingZeros 16 (l .rest)) (r .result)) (cleared (l .rest)) (l .left - 1) (r .result .count) (n .result)
     (c .needs-more .result)
+unfolding foundBy
 step-stored c =
     let n = c .before .before .note in
-    let r = c .before .before .before .before .before .before .before .before .before .step-member in
-    let l = c .before .before .before .before .before .before .before .before .before .before .before .before .before .before .before .before .before .loop in
-    let g = c .before .before .before .before .before .before .before .before .before .before .before .before .before .before .before .before .before .before in
+    let r = c .before .before .before .before .before .before .before .before .before .before .step-member in
+    let l = c .before .before .before .before .before .before .before .before .before .before .before .before .before .before .before .before .before .before .before .loop in
+    let g = c .before .before .before .before .before .before .before .before .before .before .before .before .before .before .before .before .before .before .before .before in
     let j = leap-at g in
     let points = board (entry g) .points in
     let k = turn j .before .ticks in
-    turning-store _ _ _ _ _ _ _ _ _ _ _ _ _ (l .inv) (c .before .before .before .before .before .before .before .before .before .before .before .before .before .before .before .before .loop-test .taken) _
-    (whole-points (boardAt (board (entry g)) (leapt j) (k .clock + j .if2 .skipped) (k .held)) (ahead j .whole)) (c .before .before .before .before .before .before .before .before .before .before .before .before .before .before .leap .ensures)
-    (c .before .before .before .before .before .before .before .before .before .before .before .info-at .ensures
-    ∙ ap (λ (a : ℕ). infoAt (key (trailingZeros 16 (l .rest)) a) (keysOf points) (infosOf points)) (c .before .before .before .before .before .before .before .before .before .before .before .before .before .arrival .ensures))
+    let x = c .before .before .before .before .before .before .before .before .before .before .before .before .before .before .before .before .leap .result in
+    turning-store _ _ _ _ _ _ _ _ _ _ _ _ _ (l .inv) (c .before .before .before .before .before .before .before .before .before .before .before .before .before .before .before .before .before .before .loop-test .taken) _
+    (whole-points (boardAt (board (entry g)) (leapt j) (k .clock + j .if2 .skipped) (k .held)) (ahead j .whole)) (c .before .before .before .before .before .before .before .before .before .before .before .before .before .before .before .before .leap .ensures)
+    (c .before .before .before .before .before .before .before .before .before .before .before .before .info-met .ensures
+    ∙ ap (λ (m : Bool). cond m (infoAt (key (trailingZeros 16 (l .rest)) (c .before .before .before .before .before .before .before .before .before .before .before .before .before .before .before .arrival .result .0)) (keysOf points) (infosOf points)) 0)
+    (c .before .before .before .before .before .before .before .before .before .before .before .before .before .moves .ensures)
+    ∙ ap (λ (a : ℕ). cond (moves x) (infoAt (key (trailingZeros 16 (l .rest)) a) (keysOf points) (infosOf points)) 0) (c .before .before .before .before .before .before .before .before .before .before .before .before .before .before .before .arrival .ensures))
     (r .ensures .0) (r .ensures .1) (n .ensures .0) (n .ensures .1 .0) (n .ensures .1 .1) (c .needs-more .ensures)
 
 -- ---- the tick is worked out

@@ -6,7 +6,7 @@ use crate::Track;
 ghost use mathlib.Core.Path.{_≡_};
 ghost use Prim.Native.Nat.{_≤_, _<_};
 ghost use Rattle.track.specs.Rule.{Valid, clockEnd};
-ghost use Rattle.track.specs.Leap.{span, phase, place, next, leap, stopStep, running, stepsTo};
+ghost use Rattle.track.specs.Stride.{span, phase, place, next, stride, stopStep, running, stepsTo};
 
 impl Track {
     // The number of locations of the span.
@@ -50,14 +50,13 @@ impl Track {
         self.phase(self.arrival())
     }
 
-    // The track after n ticks, none of which stops it or makes it wait.
-    pub fn leap(self, n: Ticks) -> Track
+    // The track after so many steps, none of which stops it or makes it wait.
+    pub(crate) fn stride(self, steps: u32) -> Track
         requires { ⌜ Valid self ⌝ }
         requires { ⌜ self .passes .0 ≤ clockEnd ⌝ }
-        requires { ⌜ n .0 ≤ clockEnd ⌝ }
-        ensures { λ r. ⌜ r ≡ leap self (n .0) ⌝ }
+        requires { ⌜ steps ≤ clockEnd ⌝ }
+        ensures { λ r. ⌜ r ≡ stride self steps ⌝ }
     {
-        let steps = n.0;
         if steps == 0 {
             return self;
         }
@@ -84,33 +83,33 @@ impl Track {
         }
     }
 
-    // The ticks before the one that stops the track, at most the clock's end.
-    pub fn running(self) -> Ticks
+    // The steps before the one that stops the track, at most the clock's end.
+    pub fn running(self) -> u32
         requires { ⌜ Valid self ⌝ }
-        ensures { λ r. ⌜ r .0 ≡ running self ⌝ }
+        ensures { λ r. ⌜ r ≡ running self ⌝ }
     {
         if self.repeat == Track::REPEATING {
-            return Ticks(Ticks::END);
+            return Ticks::END;
         }
         let before = self.stop_step() - 1;
         if (Ticks::END as u64) < before {
-            return Ticks(Ticks::END);
+            return Ticks::END;
         }
-        Ticks(before as u32)
+        before as u32
     }
 
-    // The ticks before the first that reaches the location l of the span.
-    pub fn steps_to(self, l: Coordinate) -> Ticks
+    // The steps before the first that reaches the location l of the span.
+    pub fn steps_to(self, l: Coordinate) -> u32
         requires { ⌜ Valid self ⌝ }
         requires { ⌜ (self .start .0 ≤ l .0) × (l .0 ≤ self .end .0) ⌝ }
-        ensures { λ r. ⌜ r .0 ≡ stepsTo self (l .0) ⌝ }
+        ensures { λ r. ⌜ r ≡ stepsTo self (l .0) ⌝ }
     {
         let next = self.next();
         let to = self.phase(l);
         if next <= to {
-            Ticks(to - next)
+            to - next
         } else {
-            Ticks(to + self.span() - next)
+            to + self.span() - next
         }
     }
 }
