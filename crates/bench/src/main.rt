@@ -6,6 +6,8 @@
 //   51 k p       a record of kind k packed at place p of the log: 0 accepted or the refusal's number, then the log
 //   52 a b       calls a to b of those since code 0 on the board at hand: the number of each, 0 accepted; an
 //                accepted one is undone
+#![tactic(auto)]
+
 ghost use Rattle.std.specs.Prelude.{◌≤◌, ◌≡◌, length};
 
 use crate::poke::{limited, poked};
@@ -22,7 +24,7 @@ mod show;
 // Calls that are kept since code 0; those after them take the last one's place.
 const ROWS: usize = 320;
 
-#[derive(Drop)]
+#[derive(Clone, Copy)]
 struct Bench {
     board: Board,
     // Bytes of the log.

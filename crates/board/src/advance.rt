@@ -20,7 +20,7 @@ use track::setup::Answer;
 use track::{Ticks, Track};
 
 // Where ticks left off: what a tick changes of a board.
-#[derive(Drop)]
+#[derive(Clone, Copy)]
 pub struct Left {
     pub answer: Advanced,
     pub tracks: [Track; Board::TRACKS],
@@ -167,7 +167,7 @@ fn run<'a>(
 }
 
 // What an advance answers, and the board after it.
-#[derive(Drop)]
+#[derive(Clone, Copy)]
 pub struct Progress {
     pub answer: Advanced,
     pub board: Board,

@@ -14,7 +14,7 @@ use track::setup::Answer;
 use track::{Coordinate, Track};
 
 // What a call tells, and the board after it.
-#[derive(Drop)]
+#[derive(Clone, Copy)]
 pub struct Applied {
     pub told: Told,
     pub track: Track,

@@ -3,7 +3,7 @@ use crate::points::Point;
 use track::Ticks;
 use track::setup::Change;
 
-#[derive(Drop)]
+#[derive(Clone, Copy)]
 pub enum Call {
     // Number, min, max.
     AddTrack(i64, i64, i64),
@@ -28,7 +28,7 @@ pub enum Call {
 
 // Thresholds, each with its event behind it. An enum cannot hold an array; more than four are refused whatever they are,
 // so that five stand for any greater number.
-#[derive(Drop)]
+#[derive(Clone, Copy)]
 pub enum Pairs {
     Nothing,
     One(i64, i64),
@@ -39,7 +39,7 @@ pub enum Pairs {
 }
 
 // What an advance answers: why it ended, with the ticks taken, or a refusal's number.
-#[derive(Drop)]
+#[derive(Clone, Copy)]
 pub enum Advanced {
     Done(Ticks),
     LogFull(Ticks),
@@ -48,7 +48,7 @@ pub enum Advanced {
 }
 
 // What a call tells. A track that is told stands beside it, since an enum cannot hold the track's array.
-#[derive(Drop)]
+#[derive(Clone, Copy)]
 pub enum Told {
     Accepted,
     Refused(u8),

@@ -10,14 +10,14 @@ use crate::log::{Record, put_record};
 use track::{Ticks, Track};
 
 // The band of one follower, and the number of records staged.
-#[derive(Drop)]
+#[derive(Clone, Copy)]
 pub struct Band {
     pub band: u8,
     pub count: usize,
 }
 
 // The tracks with their bands, and the number of records staged.
-#[derive(Drop)]
+#[derive(Clone, Copy)]
 pub struct Judged {
     pub tracks: [Track; Board::TRACKS],
     pub count: usize,

@@ -1,4 +1,6 @@
 // A board: tracks side by side, their points, one clock and the number of records held in one log.
+#![tactic(auto)]
+
 ghost use Rattle.std.specs.Prelude.{◌≡◌};
 ghost use Rattle.board.specs.Board.{fresh_board};
 
@@ -24,7 +26,7 @@ mod steady;
 mod tick;
 
 #[repr(C)]
-#[derive(Drop)]
+#[derive(Clone, Copy)]
 pub struct Board {
     pub tracks: [Track; Board::TRACKS],
     // Bit i says that track i is present.

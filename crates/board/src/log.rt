@@ -6,7 +6,7 @@ ghost use Rattle.board.specs.Log.{pack_said, pack_answer, pack_bytes, unpack_sai
 use track::setup::Answer;
 use track::{Coordinate, Passes, Ticks};
 
-#[derive(Drop)]
+#[derive(Clone, Copy)]
 pub struct Record {
     // The clock after the tick, or as it is at a mode call.
     pub clock: Ticks,
@@ -20,7 +20,7 @@ pub struct Record {
     pub passes: Passes,
 }
 
-#[derive(Drop)]
+#[derive(Clone, Copy)]
 pub enum Unpacked {
     Held(Record),
     Refused(u8),

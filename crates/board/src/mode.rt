@@ -16,7 +16,7 @@ use track::setup::Answer;
 use track::{Ticks, Track};
 
 // What a mode call comes to: the answer, the one track that it may change, and the number of records held.
-#[derive(Drop)]
+#[derive(Clone, Copy)]
 pub struct ModeChange {
     pub answer: Answer,
     pub at: usize,

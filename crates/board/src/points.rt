@@ -9,7 +9,7 @@ use track::Coordinate;
 
 // A reference point (000, section 2), as calls and queries exchange it.
 #[repr(C)]
-#[derive(Drop)]
+#[derive(Clone, Copy)]
 pub struct Point {
     pub track: u8,
     pub position: Coordinate,
@@ -20,7 +20,7 @@ pub struct Point {
 }
 
 #[repr(C)]
-#[derive(Drop)]
+#[derive(Clone, Copy)]
 pub struct Points {
     pub keys: [u32; Points::MOST],
     pub infos: [u32; Points::MOST],
@@ -28,21 +28,21 @@ pub struct Points {
 }
 
 // The points after a change, and whether it was made.
-#[derive(Drop)]
+#[derive(Clone, Copy)]
 pub struct Stored {
     pub done: bool,
     pub points: Points,
 }
 
 // The position of a nearest point, or none.
-#[derive(Drop)]
+#[derive(Clone, Copy)]
 pub enum Near {
     At(Coordinate),
     Nothing,
 }
 
 // What stands at a position, 0 for nothing, and the nearest point further on.
-#[derive(Drop)]
+#[derive(Clone, Copy)]
 pub struct Lookup {
     pub info: u32,
     pub near: Near,

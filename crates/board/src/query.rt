@@ -11,26 +11,26 @@ use track::setup::Answer;
 use track::{Coordinate, Ticks, Track};
 
 // Clock and held.
-#[derive(Drop)]
+#[derive(Clone, Copy)]
 pub enum ClockRead {
     Clock(Ticks, u64),
     Refused(u8),
 }
 
 // Every field of a track; the absent one where the query is refused.
-#[derive(Drop)]
+#[derive(Clone, Copy)]
 pub struct TrackRead {
     pub answer: Answer,
     pub track: Track,
 }
 
-#[derive(Drop)]
+#[derive(Clone, Copy)]
 pub enum PointRead {
     Found(Point),
     Refused(u8),
 }
 
-#[derive(Drop)]
+#[derive(Clone, Copy)]
 pub enum CountRead {
     Count(u64),
     Refused(u8),

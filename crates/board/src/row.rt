@@ -26,7 +26,7 @@ const PAIRS: u32 = Track::THRESHOLDS as u32 + 1;
 pub const CALL_WIDTH: usize = 4 + 2 * (Track::THRESHOLDS + 1);
 
 // What a row comes to.
-#[derive(Drop)]
+#[derive(Clone, Copy)]
 pub enum Coded {
     Call(Call),
     Nothing,

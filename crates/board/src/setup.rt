@@ -12,14 +12,14 @@ use track::setup::{Answer, Change, settled};
 use track::{Coordinate, Track};
 
 // The answer to a call, and the board after it.
-#[derive(Drop)]
+#[derive(Clone, Copy)]
 pub struct Outcome {
     pub answer: Answer,
     pub board: Board,
 }
 
 // The point that the numbers of a call describe, or that one of them is outside its range or rule.
-#[derive(Drop)]
+#[derive(Clone, Copy)]
 pub enum Described {
     Good(Point),
     Bad,

@@ -16,7 +16,7 @@ use track::grid::{Decision, grid};
 use track::{Coordinate, Passes, Ticks, Track};
 
 // A track after a command, and the number of records staged.
-#[derive(Drop)]
+#[derive(Clone, Copy)]
 pub struct Staged {
     pub track: Track,
     pub count: usize,
@@ -30,7 +30,7 @@ impl Staged {
 }
 
 // What a tick changes of its track, and the number of records staged.
-#[derive(Drop)]
+#[derive(Clone, Copy)]
 pub struct Stepped {
     pub mode: u8,
     pub position: Coordinate,
@@ -41,7 +41,7 @@ pub struct Stepped {
 }
 
 // The tracks after a tick's commands, the number of records staged, and the word of the tracks that play then.
-#[derive(Drop)]
+#[derive(Clone, Copy)]
 pub struct Commanded {
     pub tracks: [Track; Board::TRACKS],
     pub count: usize,

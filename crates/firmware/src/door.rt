@@ -12,7 +12,7 @@ use board::row::{REPLY_WIDTH, answer, call_of, reply_row};
 
 // The board after a call, and the numbers of its reply.
 #[repr(C)]
-#[derive(Drop)]
+#[derive(Clone, Copy)]
 pub struct Replied {
     pub board: Board,
     pub reply: [u64; REPLY_WIDTH],

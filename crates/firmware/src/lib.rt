@@ -1,5 +1,7 @@
 // The mode calls and advance over the one board that the firmware keeps and lends to every call, exported for C and Rust. There a
 // board is passed as a pointer, and a log as a pointer and a length.
+#![tactic(auto)]
+
 ghost use Rattle.std.specs.Prelude.{◌≡◌};
 ghost use Rattle.board.specs.Board.{fresh_board};
 ghost use Rattle.board.specs.Call.{Gives, does, world};

@@ -13,7 +13,7 @@ use track::{Ticks, Track};
 
 // How an advance ended: the reason, with the ticks taken or, for a refusal, its number.
 #[repr(C)]
-#[derive(Drop)]
+#[derive(Clone, Copy)]
 pub struct Ending {
     pub reason: u32,
     pub number: u32,
@@ -30,7 +30,7 @@ impl Ending {
 }
 
 // What a mode call changes of a board, one track and the number of records held, and 0 or the refusal's number.
-#[derive(Drop)]
+#[derive(Clone, Copy)]
 pub struct Answered {
     pub at: usize,
     pub track: Track,

@@ -1,5 +1,7 @@
 // The runner: a script comes in on standard input, and what it prints goes out on standard output (01, "Script lines").
 // A read that fails ends the input; what was read of it is done.
+#![tactic(auto)]
+
 ghost use Rattle.std.specs.Prelude.{◌≤◌, [], length};
 ghost use Rattle.script.specs.Run.{Went};
 ghost use Rattle.script.specs.Text.{line_room};
@@ -41,7 +43,7 @@ fn take_in(x: Session, piece: &[u8], log: &mut [u8], out: &mut [u8]) -> Session
 }
 
 // A session, and whether the input goes on.
-#[derive(Drop)]
+#[derive(Clone, Copy)]
 struct Turn {
     session: Session,
     more: bool,

@@ -24,7 +24,7 @@ fn comma(text: &[u8], at: usize) -> usize
 }
 
 // Numbers of a line, and zeros behind them; or fields that are not so many numbers.
-#[derive(Drop)]
+#[derive(Clone, Copy)]
 pub struct Row {
     pub whole: bool,
     pub numbers: [i64; 6],

@@ -1,4 +1,6 @@
 // The script part: a script's bytes become calls on a board, and what they answer becomes lines.
+#![tactic(auto)]
+
 mod grammar;
 mod lines;
 mod number;

@@ -9,7 +9,7 @@ pub const LINE: usize = 64;
 pub const KEPT: usize = LINE + 1;
 
 // A line that is being read: its number, and the first of its bytes.
-#[derive(Drop)]
+#[derive(Clone, Copy)]
 pub struct Reader {
     pub line: u64,
     pub length: usize,
@@ -17,7 +17,7 @@ pub struct Reader {
 }
 
 // The reader after a part of a piece, the place behind that part, and whether a line ended there.
-#[derive(Drop)]
+#[derive(Clone, Copy)]
 pub struct Read {
     pub reader: Reader,
     pub next: usize,

@@ -3,13 +3,13 @@ ghost use Rattle.std.specs.Prelude.{◌≡◌, ◌≤◌, pos, neg_ℤ, length, 
 ghost use Rattle.script.specs.Number.{size_of, number_of};
 
 // A number without its sign.
-#[derive(Drop)]
+#[derive(Clone, Copy)]
 pub enum Size {
     Of(u32),
     NoSize,
 }
 
-#[derive(Drop)]
+#[derive(Clone, Copy)]
 pub enum Number {
     Value(i64),
     NoNumber,

@@ -81,7 +81,7 @@ pub fn note(line: u64, told: Told) -> Out
 }
 
 // The held records, printed: where the records stand that are still to be written, how many they are, and the bytes of the buffer that are used.
-#[derive(Drop)]
+#[derive(Clone, Copy)]
 pub struct Shown {
     pub at: usize,
     pub left: u64,

@@ -40,7 +40,7 @@ fn do_read(b: Board, r: Reader, log: &mut [u8]) -> Applied
 }
 
 // A board on which a script is executed, and the line that is being read.
-#[derive(Drop)]
+#[derive(Clone, Copy)]
 pub struct Session {
     pub reader: Reader,
     pub board: Board,
@@ -58,7 +58,7 @@ impl Session {
 }
 
 // A session after a part of a piece, the place behind that part, and the bytes of the buffer that are used.
-#[derive(Drop)]
+#[derive(Clone, Copy)]
 pub struct Fed {
     pub session: Session,
     pub next: usize,
@@ -105,7 +105,7 @@ pub fn feed(x: Session, piece: &[u8], at: usize, log: &mut [u8], out: &mut [u8])
 }
 
 // What the end of an input leaves: the board, and what is printed of a line that lacks its LF.
-#[derive(Drop)]
+#[derive(Clone, Copy)]
 pub struct Ended {
     pub board: Board,
     pub note: Out,

@@ -6,7 +6,7 @@ ghost use Rattle.script.specs.Text.{digits_most, line_room, decimal, number_then
 use track::Coordinate;
 
 // The digits of a number, from a place of the array on.
-#[derive(Drop)]
+#[derive(Clone, Copy)]
 pub struct Digits {
     pub bytes: [u8; Digits::MOST],
     pub from: usize,
@@ -34,7 +34,7 @@ fn digits_of(n: u64) -> Digits
 }
 
 // A line of output; none is longer than its room.
-#[derive(Drop)]
+#[derive(Clone, Copy)]
 pub struct Out {
     pub length: usize,
     pub bytes: [u8; Out::ROOM],

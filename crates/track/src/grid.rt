@@ -5,7 +5,7 @@ ghost use Rattle.track.specs.Grid.{grid_of};
 use crate::Track;
 
 // What a mode call or a command does in a mode: the mode to go to, or a refusal.
-#[derive(Drop)]
+#[derive(Clone, Copy)]
 pub enum Decision {
     Goes(u8),
     Refused,

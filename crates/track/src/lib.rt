@@ -1,5 +1,7 @@
 // A track: PREMO's synchronizable object (000, section 2; 001, section 4.1) with a span, a walk, a mode
 // grid and sixteen action cells. It knows nothing of boards.
+#![tactic(auto)]
+
 ghost use Rattle.std.specs.Prelude.{◌≡◌, ◌≤◌};
 ghost use Rattle.track.specs.Rule.{new_track, home, far, moved, rewound, stopped, entered, action_cell};
 
@@ -14,21 +16,21 @@ mod walk;
 
 // A position of 01, PREMO's coordinate C, kept as position + 1,000,000 so that it has no sign inside.
 #[repr(C)]
-#[derive(Drop)]
+#[derive(Clone, Copy)]
 pub struct Coordinate(pub u32);
 
 // Ticks of the board's clock, PREMO's Time.
 #[repr(C)]
-#[derive(Drop)]
+#[derive(Clone, Copy)]
 pub struct Ticks(pub u32);
 
 // Arrivals at the far position, PREMO's visit number.
 #[repr(C)]
-#[derive(Drop)]
+#[derive(Clone, Copy)]
 pub struct Passes(pub u32);
 
 #[repr(C)]
-#[derive(Drop)]
+#[derive(Clone, Copy)]
 pub struct Track {
     pub min: Coordinate,
     pub max: Coordinate,

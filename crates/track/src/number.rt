@@ -5,14 +5,14 @@ ghost use Rattle.track.specs.Number.{natural_of, capped_of, coordinate_of, withi
 use crate::Coordinate;
 
 // A number of a call that may lie outside its range.
-#[derive(Drop)]
+#[derive(Clone, Copy)]
 pub enum Natural {
     In(u32),
     Outside,
 }
 
 // A position of a call that may lie outside its range.
-#[derive(Drop)]
+#[derive(Clone, Copy)]
 pub enum Place {
     At(Coordinate),
     Outside,

@@ -6,7 +6,7 @@ ghost use Rattle.track.specs.Leap.{moves, leap, ticks_before};
 use crate::{Ticks, Track};
 
 // The steps that ticks make, and the remainder then.
-#[derive(Drop)]
+#[derive(Clone, Copy)]
 struct Made {
     steps: u32,
     remainder: u32,

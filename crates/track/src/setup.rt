@@ -7,7 +7,7 @@ use crate::number::{Natural, Place, in_range};
 use crate::{Coordinate, Track};
 
 // A set-up change with the numbers of its call.
-#[derive(Drop)]
+#[derive(Clone, Copy)]
 pub enum Change {
     Start(i64),
     End(i64),
@@ -22,7 +22,7 @@ pub enum Change {
 }
 
 // What a call answers: accepted, or refused with 01's number.
-#[derive(Drop)]
+#[derive(Clone, Copy)]
 pub enum Answer {
     Accepted,
     Refused(u8),
@@ -65,7 +65,7 @@ impl Answer {
 }
 
 // The answer to a change, and the track after it.
-#[derive(Drop)]
+#[derive(Clone, Copy)]
 pub struct Changed {
     pub answer: Answer,
     pub track: Track,
