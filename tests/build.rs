@@ -6,7 +6,7 @@ use std::path::Path;
 fn main() {
     println!("cargo:rerun-if-env-changed=GRIDSTEP_LIB");
     let manifest = env::var("CARGO_MANIFEST_DIR").expect("set by cargo");
-    let folder = env::var("GRIDSTEP_LIB").unwrap_or("../target/staticlib".into());
+    let folder = env::var("GRIDSTEP_LIB").unwrap_or("../crates/firmware/out".into());
     let folder = Path::new(&manifest).join(folder);
     let archive = folder.join("libfirmware.a");
     assert!(archive.is_file(), "no archive at {}", archive.display());

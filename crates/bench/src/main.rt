@@ -15,11 +15,16 @@ use crate::read::{after, begins, find, number_of, read_row};
 use crate::show::{held_records, next, pack_line, refusal, reply, text};
 use board::Board;
 use board::row::{CALL_WIDTH, REPLY_WIDTH, do_row};
-use libc::STDIN_FILENO;
+use std::io::Read;
 
 mod poke;
 mod read;
 mod show;
+
+// Bytes of the input that are read, and of the log.
+const INPUT: usize = 65536;
+
+const LOG: usize = 4096;
 
 // Calls that are kept since code 0; those after them take the last one's place.
 const ROWS: usize = 320;
@@ -31,6 +36,21 @@ struct Bench {
     length: usize,
     // Calls kept.
     rows: usize,
+}
+
+// Reads until the buffer is full, the input ends or a read fails; how many bytes were read.
+fn read_full(reader: &mut impl Read, input: &mut [u8]) -> usize
+    ensures { result ≤ length input.new }
+{
+    let mut done: usize = 0;
+    while done < input.len() {
+        let n = reader.read(&mut input[done..]).unwrap_or(0);
+        if n == 0 {
+            return done;
+        }
+        done += n;
+    }
+    done
 }
 
 // What the log's bytes are at the start.
@@ -54,11 +74,11 @@ fn row(b: Board, i: usize, calls: &[i64], log: &mut [u8], replies: &mut [u64]) -
 }
 
 // A call, printed and kept.
-fn call(b: Bench, calls: &[i64], log: &mut [u8], replies: &mut [u64]) -> Bench {
+fn call(rt: &impl Print, b: Bench, calls: &[i64], log: &mut [u8], replies: &mut [u64]) -> Bench {
     let i = b.rows;
     let before = b.board;
     let board = row(before, i, calls, log, replies);
-    reply(replies, i);
+    reply(rt, replies, i);
     Bench {
         board,
         length: b.length,
@@ -67,15 +87,23 @@ fn call(b: Bench, calls: &[i64], log: &mut [u8], replies: &mut [u64]) -> Bench {
 }
 
 // Code 52, one call: what is refused leaves its board.
-fn tried(b: Board, i: usize, calls: &[i64], log: &mut [u8], replies: &mut [u64]) -> Board {
+fn tried(
+    rt: &impl Print,
+    b: Board,
+    i: usize,
+    calls: &[i64],
+    log: &mut [u8],
+    replies: &mut [u64],
+) -> Board {
     let c = row(b, i, calls, log, replies);
     let n = refusal(replies, i);
-    next(n);
+    next(rt, n);
     if n == 0 { b } else { c }
 }
 
 // Code 52.
 fn try_calls(
+    rt: &impl Print,
     b: Board,
     from: usize,
     to: usize,
@@ -85,12 +113,12 @@ fn try_calls(
 ) -> Board {
     let mut c = b;
     let mut i = from;
-    text(b"tried");
+    text(rt, b"tried");
     while i < to {
-        c = tried(c, i, calls, log, replies);
+        c = tried(rt, c, i, calls, log, replies);
         i += 1;
     }
-    text(b"\n");
+    text(rt, b"\n");
     c
 }
 
@@ -120,12 +148,12 @@ fn with_poke(b: Bench, code: u32, calls: &[i64]) -> Bench {
 }
 
 // Code 52 with the numbers of its row.
-fn tries(b: Bench, calls: &[i64], log: &mut [u8], replies: &mut [u64]) -> Bench {
+fn tries(rt: &impl Print, b: Bench, calls: &[i64], log: &mut [u8], replies: &mut [u64]) -> Bench {
     let i = b.rows;
     let from = limited(number_of(calls, i, 1), 320) as usize;
     let to = limited(number_of(calls, i, 2), 320) as usize;
     let before = b.board;
-    let board = try_calls(before, from, to, calls, log, replies);
+    let board = try_calls(rt, before, from, to, calls, log, replies);
     Bench {
         board,
         length: b.length,
@@ -134,40 +162,47 @@ fn tries(b: Bench, calls: &[i64], log: &mut [u8], replies: &mut [u64]) -> Bench 
 }
 
 // Code 51 with the numbers of its row.
-fn packs(b: Bench, calls: &[i64], log: &mut [u8]) -> Bench {
+fn packs(rt: &impl Print, b: Bench, calls: &[i64], log: &mut [u8]) -> Bench {
     let i = b.rows;
     let kind = limited(number_of(calls, i, 1), 255) as u8;
     let at = limited(number_of(calls, i, 2), 4096) as usize;
-    pack_line(kind, at, log);
+    pack_line(rt, kind, at, log);
     b
 }
 
 // A row that has been read, but for code 0, with the log cut to its length.
-fn step(b: Bench, code: u32, calls: &[i64], log: &mut [u8], replies: &mut [u64]) -> Bench {
+fn step(
+    rt: &impl Print,
+    b: Bench,
+    code: u32,
+    calls: &[i64],
+    log: &mut [u8],
+    replies: &mut [u64],
+) -> Bench {
     if code < 30 {
-        return call(b, calls, log, replies);
+        return call(rt, b, calls, log, replies);
     }
     if code < 48 {
         return with_poke(b, code, calls);
     }
     if code == 50 {
         let board = b.board;
-        held_records(board, log);
+        held_records(rt, board, log);
         return b;
     }
     if code == 51 {
-        return packs(b, calls, log);
+        return packs(rt, b, calls, log);
     }
     if code == 52 {
-        return tries(b, calls, log, replies);
+        return tries(rt, b, calls, log, replies);
     }
     if code < 53 {
-        return call(b, calls, log, replies);
+        return call(rt, b, calls, log, replies);
     }
     if code < 60 {
         return with_poke(b, code, calls);
     }
-    call(b, calls, log, replies)
+    call(rt, b, calls, log, replies)
 }
 
 // Code 0.
@@ -181,7 +216,14 @@ fn fresh(length: usize, log: &mut [u8]) -> Bench {
 }
 
 // A line that is no title.
-fn numbers(b: Bench, line: &[u8], calls: &mut [i64], log: &mut [u8], replies: &mut [u64]) -> Bench {
+fn numbers(
+    rt: &impl Print,
+    b: Bench,
+    line: &[u8],
+    calls: &mut [i64],
+    log: &mut [u8],
+    replies: &mut [u64],
+) -> Bench {
     let i = b.rows;
     read_row(line, calls, i);
     let code = limited(number_of(calls, i, 0), 1000);
@@ -189,35 +231,42 @@ fn numbers(b: Bench, line: &[u8], calls: &mut [i64], log: &mut [u8], replies: &m
         return fresh(limited(number_of(calls, i, 1), 4096) as usize, log);
     }
     let bytes = lesser(b.length, log.len());
-    step(b, code, calls, &mut log[..bytes], replies)
+    step(rt, b, code, calls, &mut log[..bytes], replies)
 }
 
 // A line.
-fn line(b: Bench, bytes: &[u8], calls: &mut [i64], log: &mut [u8], replies: &mut [u64]) -> Bench {
+fn line(
+    rt: &impl Print,
+    b: Bench,
+    bytes: &[u8],
+    calls: &mut [i64],
+    log: &mut [u8],
+    replies: &mut [u64],
+) -> Bench {
     if begins(bytes, b'#') {
-        text(bytes);
-        text(b"\n");
+        text(rt, bytes);
+        text(rt, b"\n");
         return b;
     }
-    numbers(b, bytes, calls, log, replies)
+    numbers(rt, b, bytes, calls, log, replies)
 }
 
 // All lines.
-fn lines(input: &[u8], calls: &mut [i64], log: &mut [u8], replies: &mut [u64]) {
+fn lines(rt: &impl Print, input: &[u8], calls: &mut [i64], log: &mut [u8], replies: &mut [u64]) {
     let mut b = fresh(0, log);
     let mut at: usize = 0;
     while at < input.len() {
         let end = find(input, at, b'\n');
-        b = line(b, &input[at..end], calls, log, replies);
+        b = line(rt, b, &input[at..end], calls, log, replies);
         at = after(end, input.len());
     }
 }
 
-fn main() {
-    let mut input = io::large_buffer();
-    let mut log = io::buffer();
+fn main(rt: HostRuntime) {
+    let mut input = [0u8; INPUT];
+    let mut log = [0u8; LOG];
     let mut calls = [0i64; ROWS * CALL_WIDTH];
     let mut replies = [0u64; ROWS * REPLY_WIDTH];
-    let n = io::read_full(STDIN_FILENO, &mut input);
-    lines(&input[..n], &mut calls, &mut log, &mut replies);
+    let n = read_full(&mut rt.reader(), &mut input);
+    lines(&rt, &input[..n], &mut calls, &mut log, &mut replies);
 }

@@ -5,4 +5,5 @@ pub mod Advancing
 pub mod Walked
 pub mod Leavings
 pub mod Cost
+pub mod Standing
 pub mod SameTick

@@ -10,7 +10,7 @@ pub fn folder(name: &str) -> PathBuf {
 
 /// The runner: GRIDSTEP_RUNNER, taken from the manifest's folder if it is relative, or the one that `rt` makes.
 pub fn runner() -> PathBuf {
-    let path = std::env::var("GRIDSTEP_RUNNER").unwrap_or("../target/bin/runner".into());
+    let path = std::env::var("GRIDSTEP_RUNNER").unwrap_or("../crates/runner/out/runner".into());
     let path = Path::new(env!("CARGO_MANIFEST_DIR")).join(path);
     assert!(path.is_file(), "no runner at {}: make it by `rt check runner`", path.display());
     path

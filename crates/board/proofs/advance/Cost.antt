@@ -1,5 +1,5 @@
 -- The turns of the tick loop are bounded by the records that it writes and the ticks in which a track of a follower's pair leaves its
--- line, and not by all ticks: `turns_left` is the measure of the loop (`μ-ticks` in advance/run/Proof/Standing), which every turn that goes
+-- line, and not by all ticks: `turns_left` is the measure of the loop (`decreases-ticks` in advance/run/Invariants), which every turn that goes
 -- round again lessens by one at least.
 use Prim.Native.Nat.{ℕ, zero, suc, ◌+◌, ◌-◌, ◌*◌, ◌/◌, ◌%◌, ◌^◌, ◌≤◌, ◌<◌, min, suc-le-suc}
 use mathlib.Core.Path.{◌≡◌, refl, sym, ap, ◌∙◌}

@@ -10,7 +10,7 @@ use lib.IntN.{pos}
 use lib.ListN.{length}
 use lib.Seq.{sets}
 use contract.Lifetimes.{Lfts}
-use denote.Ref.{Bor}
+use denote.Ref.{MutBor}
 use Rattle.track.specs.Rule.{clock_end}
 use Rattle.track.proofs.Numbers.{natural-of}
 use Rattle.board.specs.declared.Board.{Board}
@@ -140,7 +140,7 @@ gives-alike b h h' {log} {log'} g g' =
     rw (t.1, t'.1) (tick-alike b h h' log log' t.0 t'.0)
 
 -- The same of `advance` itself, by its own contract: two calls by 1 that answer Done with 1.
-pub advance-alike : (b : Board) (h h' : ℕ) (κs κs' : Lfts 1) (x y x' y' : Bor (List ℕ)) (r r' : Progress) →
+pub advance-alike : (b : Board) (h h' : ℕ) (κs κs' : Lfts 1) (x y x' y' : MutBor (List ℕ)) (r r' : Progress) →
     advance-says.Learnt κs (held_at h b, (pos 1, (x, tt))) r (held_at h b, (pos 1, (y, tt))) →
     advance-says.Learnt κs' (held_at h' b, (pos 1, (x', tt))) r' (held_at h' b, (pos 1, (y', tt))) →
     r.answer ≡ advanced.Done (record { 0 = 1 }) → r'.answer ≡ advanced.Done (record { 0 = 1 }) →

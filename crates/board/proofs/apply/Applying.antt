@@ -21,7 +21,7 @@ said f e s = record { reply_is = s.reply_is ∙ ap f (sym e); board_is = s.board
 
 -- a number that is passed on is read back from its bits
 pub passed : (z : ℤ) → mag z < 2 ^ hbits w64 → z ≡ back z
-passed z h = sym (to_z-of_z (record { sfits = h }))
+passed z h = sym (to_z-of_z {w = w64} (record { sfits = h }))
 
 -- what the call at hand gives, told
 pub applied : (w : World Board) {c k : Call} {a : Reply} {b : Board} {log : List ℕ} {r : Applied} → c ≡ k → Gives (does k w) a b log → Says a b r →

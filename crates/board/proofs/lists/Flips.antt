@@ -93,6 +93,7 @@ Among xs ys = (before : List Record) × (behind : List Record) × (ys ≡ before
 among-arrivals : (b : Board) (i : ℕ) (is : List ℕ) → Some (λ j. j ≡ i) is →
     Among (map (arrival_record b) (arrival_next b i)) (map (arrival_record b) (arrivals_of b is))
 unfolding Some arrivals_of
+among-arrivals b i [] x = elim x [ ]
 among-arrivals b i (j ∷ is) (inl e) = (
   [],
   map (arrival_record b) (arrivals_of b is),

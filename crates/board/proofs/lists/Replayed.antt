@@ -6,7 +6,7 @@ use Prim.Native.Nat.{ℕ, ◌≤◌, zero-le}
 use lib.IntN.{ℤ}
 use lib.ListN.{length, length-map}
 use contract.Lifetimes.{Lfts}
-use denote.Ref.{Bor}
+use denote.Ref.{Bor, MutBor}
 use Rattle.track.specs.declared.setup.Answer.{Answer}
 use Rattle.track.specs.Grid.{PLAY, PAUSE, RESUME, STOP}
 use Rattle.track.proofs.Numbers.{natural-of}
@@ -80,23 +80,23 @@ Step (call.SetPoint i p e f c g) w a v =
 Step (call.DropPoint i p) w a v =
     (r : Outcome) × drop-point-says.Learnt tt (w.board, (i, (p, tt))) r (w.board, (i, (p, tt))) × Left (answered r.answer) r.board w.log a v
 Step (call.Play i) w a v =
-    (κs : Lfts 1) × (x : Bor (List ℕ)) × (y : Bor (List ℕ)) × (r : Outcome)
+    (κs : Lfts 1) × (x : MutBor (List ℕ)) × (y : MutBor (List ℕ)) × (r : Outcome)
     × play-says.Learnt κs (w.board, (i, (x, tt))) r (w.board, (i, (y, tt)))
     × (x.now ≡ w.log) × Left (answered r.answer) r.board y.now a v
 Step (call.Pause i) w a v =
-    (κs : Lfts 1) × (x : Bor (List ℕ)) × (y : Bor (List ℕ)) × (r : Outcome)
+    (κs : Lfts 1) × (x : MutBor (List ℕ)) × (y : MutBor (List ℕ)) × (r : Outcome)
     × pause-says.Learnt κs (w.board, (i, (x, tt))) r (w.board, (i, (y, tt)))
     × (x.now ≡ w.log) × Left (answered r.answer) r.board y.now a v
 Step (call.Resume i) w a v =
-    (κs : Lfts 1) × (x : Bor (List ℕ)) × (y : Bor (List ℕ)) × (r : Outcome)
+    (κs : Lfts 1) × (x : MutBor (List ℕ)) × (y : MutBor (List ℕ)) × (r : Outcome)
     × resume-says.Learnt κs (w.board, (i, (x, tt))) r (w.board, (i, (y, tt)))
     × (x.now ≡ w.log) × Left (answered r.answer) r.board y.now a v
 Step (call.Stop i) w a v =
-    (κs : Lfts 1) × (x : Bor (List ℕ)) × (y : Bor (List ℕ)) × (r : Outcome)
+    (κs : Lfts 1) × (x : MutBor (List ℕ)) × (y : MutBor (List ℕ)) × (r : Outcome)
     × stop-says.Learnt κs (w.board, (i, (x, tt))) r (w.board, (i, (y, tt)))
     × (x.now ≡ w.log) × Left (answered r.answer) r.board y.now a v
 Step (call.Advance n) w a v =
-    (κs : Lfts 1) × (x : Bor (List ℕ)) × (y : Bor (List ℕ)) × (r : Progress)
+    (κs : Lfts 1) × (x : MutBor (List ℕ)) × (y : MutBor (List ℕ)) × (r : Progress)
     × advance-says.Learnt κs (w.board, (n, (x, tt))) r (w.board, (n, (y, tt)))
     × (x.now ≡ w.log) × Left (advanced_said r.answer) r.board y.now a v
 Step call.Clear w a v = (r : Outcome) × clear-says.Learnt tt (w.board, tt) r (w.board, tt) × Left (answered r.answer) r.board w.log a v
@@ -127,7 +127,7 @@ did a v = record { answer = a; left = v }
 gives-is : {d : Did Reply (World Board)} {said a : Reply} {b : Board} {l : List ℕ} {v : World Board} → Gives d said b l → Left said b l a v → d ≡ did a v
 gives-is g (p, q) = λ j. did ((sym g.answer_is ∙ sym p) j) (((λ i. world (sym g.board_is i) (sym g.log_is i)) ∙ sym q) j)
 
-lent_is : (c : Call) (w : World Board) (x y : Bor (List ℕ)) (b : Board) {said a : Reply} {v : World Board}
+lent_is : (c : Call) (w : World Board) (x y : MutBor (List ℕ)) (b : Board) {said a : Reply} {v : World Board}
     → Gives (does c (world w.board x.now)) said b y.now → x.now ≡ w.log → Left said b y.now a v → does c w ≡ did a v
 lent_is c w x y b {said} g e = gives-is (subst (λ (l : List ℕ). Gives (does c (world w.board l)) said b y.now) e g)
 
@@ -250,8 +250,8 @@ trace-whole (then {c = c} {w = w} s t) h =
 
 -- ---- the contracts can be met
 
-lends : List ℕ → Bor (List ℕ)
-lends l = record { ref_ptr = (0, 0); now = l }
+lends : List ℕ → MutBor (List ℕ)
+lends l = record { ref_ptr = (0, 0); ghost_name = 0; now = l }
 
 -- what a call gives is an answer and a world that its function can leave
 gives_left : {d : Did Reply (World Board)} {said : Reply} {b : Board} {l : List ℕ} → Gives d said b l → Left said b l d.answer d.left
@@ -259,7 +259,7 @@ gives_left g = (sym g.answer_is, λ i. world (sym g.board_is i) (sym g.log_is i)
 
 -- a mode call's function can answer and leave what the call does
 mode-met : (κs : Lfts 1) (c : Call) (w : World Board) (a : Answer) → answered a ≡ (does c w).answer
-    → (κs : Lfts 1) × (x : Bor (List ℕ)) × (y : Bor (List ℕ)) × (r : Outcome)
+    → (κs : Lfts 1) × (x : MutBor (List ℕ)) × (y : MutBor (List ℕ)) × (r : Outcome)
     × Gives (does c (world w.board x.now)) (answered r.answer) r.board y.now
     × (x.now ≡ w.log) × Left (answered r.answer) r.board y.now (does c w).answer (does c w).left
 unfolding lends

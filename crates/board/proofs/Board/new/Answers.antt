@@ -1,0 +1,7 @@
+use Rattle.board.specs.Board.{fresh_board}
+use borrow.Author.Rules.{rules}
+use Rattle.board.proofs.Board.new.Goals as goal
+
+pub returns : goal.returns
+unfolding fresh_board
+returns c = simp (c.new-absent.ensures, c.new-points.ensures)

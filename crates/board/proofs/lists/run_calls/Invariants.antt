@@ -1,0 +1,13 @@
+use Prim.Native.Nat.{◌≤◌, ◌-◌, ◌*◌}
+use Rattle.board.proofs.lists.Executing.{RowsDone, rows_start, rows_step, rows_end}
+use Rattle.board.specs.Row.{call_width, reply_width}
+use borrow.Author.Rules.{rules}
+use lib.ListN.{length}
+use native.Mathlib.Omega.{arith}
+use Rattle.board.proofs.lists.run_calls.Given as goal
+
+abbrev pub invariant-loop-i : goal.invariant-loop-i
+invariant-loop-i l = (l.i ≤ l.n) × RowsDone l.calls l.initial.log l.initial.replies l.i l.b l.log l.replies
+
+abbrev pub decreases-loop-i : goal.decreases-loop-i
+decreases-loop-i l = l.n - l.i

@@ -1,0 +1,24 @@
+use Prim.Native.Nat.{◌+◌}
+use Rattle.board.proofs.points.Ranges.{count_none, count-ranks}
+use Rattle.board.specs.Points.{count_of, between}
+use borrow.Author.Rules.{rules}
+use lib.ListN.{take}
+use mathlib.Core.Path.{◌≡◌, sym}
+use native.Mathlib.Omega.{arith}
+use Rattle.board.proofs.points.Points.count_between.Goals as goal
+
+ranks : (c : goal.After-first_from-j)
+    → c.first_from-i.result + count_of (between c.args.from c.args.past) (take c.args.n c.args.keys.now)
+    ≡ c.first_from-j.result
+ranks c =
+    rw (c.first_from-i.ensures, c.first_from-j.ensures)
+    (count-ranks c.args.from c.args.past (omega arith) 0 (take c.args.n c.args.keys.now) c.requires.keys_value)
+
+pub returns-then-past-from : goal.returns-then-past-from
+returns-then-past-from c = sym (count_none c.args.from c.args.past c.if-past-from.true (take c.args.n c.args.keys.now))
+
+pub overflow_sub-result : goal.overflow_sub-result
+overflow_sub-result c = omega (arith, ranks c)
+
+pub returns : goal.returns
+returns c = omega (arith, ranks c)

@@ -1,0 +1,16 @@
+use Prim.Native.Nat.{◌≤◌, ◌-◌, ◌+◌}
+use Rattle.board.proofs.rules.Passing.{row_next, row-end, points-low, points-place, points-allowed, points-track, points-target, points-next, points-end, length-mapped}
+use Rattle.board.specs.Board.{points_test}
+use borrow.Author.Rules.{rules}
+use borrow.Author.Tests.{not-true, not-false}
+use lib.ListN.{length, drop, take, get_or}
+use mathlib.Core.List.{◌∷◌}
+use mathlib.Core.Path.{◌≡◌, refl, ◌∙◌, sym}
+use native.Mathlib.Omega.{arith}
+use Rattle.board.proofs.rules.points_kept.Given as goal
+
+abbrev pub invariant-loop-i : goal.invariant-loop-i
+invariant-loop-i l = (l.i ≤ l.n) × (points_test l.present l.tracks l.low (drop l.i (take l.n l.keys)) (drop l.i (take l.n l.infos)) ≡ points_test l.present l.tracks 0 (take l.n l.keys) (take l.n l.infos))
+
+abbrev pub decreases-loop-i : goal.decreases-loop-i
+decreases-loop-i l = l.n - l.i

@@ -1,0 +1,15 @@
+use Prim.Native.Nat.{◌≤◌, ◌-◌}
+use Rattle.board.proofs.rules.Passing.{tracks-next, tracks-bad, tracks-end, length-mapped}
+use Rattle.board.specs.Board.{tracks_test}
+use borrow.Author.Rules.{rules}
+use borrow.Author.Tests.{not-true, not-false}
+use lib.ListN.{length, drop}
+use mathlib.Core.Path.{◌≡◌, refl, ◌∙◌}
+use native.Mathlib.Omega.{arith}
+use Rattle.board.proofs.rules.tracks_kept.Given as goal
+
+abbrev pub invariant-loop-i : goal.invariant-loop-i
+invariant-loop-i l = (l.i ≤ 16) × (tracks_test l.present l.word l.i (drop l.i l.tracks) l.clock ≡ tracks_test l.present l.present 0 l.tracks l.clock)
+
+abbrev pub decreases-loop-i : goal.decreases-loop-i
+decreases-loop-i l = 16 - l.i

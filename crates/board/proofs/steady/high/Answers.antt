@@ -1,0 +1,24 @@
+use Rattle.board.proofs.stay.Bands.{row-length}
+use Rattle.board.proofs.steady.Exits.{high-last, high-none, high-some}
+use borrow.Author.Rules.{rules}
+use lib.ListN.{length}
+use mathlib.Core.Path.{◌≡◌}
+use native.Mathlib.Omega.{arith}
+use Rattle.board.proofs.steady.high.Goals as goal
+
+pub returns-then-k-eq-THRESHOLDS : goal.returns-then-k-eq-THRESHOLDS
+returns-then-k-eq-THRESHOLDS c = let l : length c.args.thresholds ≡ 4 = search rules in
+    let h = row-length c.args.thresholds in
+    high-last _ _ c.requires (omega arith)
+
+pub bounds-thresholds-k : goal.bounds-thresholds-k
+bounds-thresholds-k c = let l : length c.args.thresholds ≡ 4 = search rules in
+    let h = row-length c.args.thresholds in
+    let n : c.args.band ≡ 4 → ⊥ = c.if-k-eq-THRESHOLDS.false in
+    omega arith
+
+pub returns-then-next-eq0 : goal.returns-then-next-eq0
+returns-then-next-eq0 c = high-none _ _ c.requires c.if-next-eq0.true
+
+pub returns : goal.returns
+returns c = high-some _ _ c.requires c.if-next-eq0.false
