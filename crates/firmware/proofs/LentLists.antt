@@ -6,7 +6,7 @@ use mathlib.Core.Option.{Option, none, some}
 use lib.IntN.{ℤ, pos}
 use lib.ListN.{length, get_or}
 use contract.Lifetimes.{Lfts}
-use denote.Ref.{Bor}
+use denote.Ref.{Bor, MutBor}
 use Rattle.track.specs.declared.setup.Change.{Change}
 use Rattle.track.specs.declared.setup.Change.TheVariants as change
 use Rattle.track.specs.Grid.{PLAY, PAUSE, RESUME, STOP}
@@ -39,7 +39,7 @@ use Rattle.firmware.proofs.door.gridstep_master.Reads as master-says
 -- ---- the door, as its contract has it
 
 -- its arguments behind the board: the code and six numbers of a row, and the log
-abbrev passed : List ℤ → Bor (List ℕ) → ℤ × (ℤ × (ℤ × (ℤ × (ℤ × (ℤ × (ℤ × (Bor (List ℕ) × Unit {0})))))))
+abbrev passed : List ℤ → MutBor (List ℕ) → ℤ × (ℤ × (ℤ × (ℤ × (ℤ × (ℤ × (ℤ × (MutBor (List ℕ) × Unit {0})))))))
 passed zs log =
     let x : ℕ → ℤ = λ j. get_or zs j (pos 0) in
     (x 0, (x 1, (x 2, (x 3, (x 4, (x 5, (x 6, (log, tt))))))))
@@ -48,8 +48,8 @@ passed zs log =
 -- arguments at exit. It returns the numbers of a reply, and leaves a board and a log.
 pub record Opened (zs : List ℤ) (w : World Board) (numbers : List ℕ) (v : World Board) : Type 0 where
   pub lifetimes : Lfts 1
-  pub entry : Bor (List ℕ)
-  pub exit : Bor (List ℕ)
+  pub entry : MutBor (List ℕ)
+  pub exit : MutBor (List ℕ)
   pub replied : Replied
   pub learnt : door-says.Learnt lifetimes (w.board, passed zs entry) replied (w.board, passed zs exit)
   pub log_in : entry.now ≡ w.log
@@ -197,9 +197,12 @@ rowed i (change.Action from to event) = (pos 9 ∷ i ∷ from ∷ to ∷ event �
 rowed i (change.Jump p) = (pos 10 ∷ i ∷ p ∷ [], refl)
 rowed i (change.Rate p q) = (pos 22 ∷ i ∷ p ∷ q ∷ [], refl)
 
--- a list, lent
+-- a list, lent to be read, and one lent to be written
 abbrev lends : {A : Type 0} → List A → Bor (List A)
 lends l = record { ref_ptr = (0, 0); now = l }
+
+abbrev lends_mut : {A : Type 0} → List A → MutBor (List A)
+lends_mut l = record { ref_ptr = (0, 0); ghost_name = 0; now = l }
 
 -- what the door can answer and leave is what its row does
 opens : (κs : Lfts 1) (zs : List ℤ) (c : Call) (w : World Board) → plain_at zs ≡ some c → Opened zs w (numbers_of (does c w).answer) (does c w).left
@@ -209,8 +212,8 @@ opens κs zs c w e =
     let r : Replied = record { board = d.left.board; reply = numbers_of d.answer } in
     record {
       lifetimes = κs;
-      entry = lends w.log;
-      exit = lends d.left.log;
+      entry = lends_mut w.log;
+      exit = lends_mut d.left.log;
       replied = r;
       learnt =
           subst⁻¹ (λ (o : Option Call). RowGives (row_does o w) r d.left.log) e (record { reply_is = refl; board_is = refl; log_is = refl });

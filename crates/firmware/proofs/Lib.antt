@@ -1,12 +1,5 @@
-pub mod Offsets
 pub mod Numbering
-pub mod Fields
-pub mod Rows
-pub mod Element
-pub mod LentCode
 pub mod Lent
-pub mod LentAdvance
-pub mod LentMode
 pub mod LentLists
 pub mod LentTicks
 pub mod DoorLaws

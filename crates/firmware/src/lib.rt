@@ -119,7 +119,8 @@ pub extern "C" fn gridstep_advance(b: &mut Board, count: i64, log: &mut [u8]) ->
         count,
         log,
     );
-    b.tracks = r.tracks;
+    let tracks = r.tracks;
+    b.tracks = tracks;
     b.clock = r.clock;
     b.held = r.held as u64;
     ending_of(r.answer)

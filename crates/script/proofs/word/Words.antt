@@ -12,10 +12,10 @@ use lib.Dec.{T, leb, ltb, eqb, ltb→lt, leb→le}
 use borrow.Author.Tests.{eq-eqb, eqb-true, lt-ltb, le-ltb, ltb-true}
 use Rattle.script.specs.Word.{Form, forms, no_form, same, code_from, numbers_after, packed, packed_or0, packed_at, word_end}
 
-pub get_d-map-below : {A B : Type 0} (f : A → B) (l : List A) (k : ℕ) (d : A) (e : B) → k < length l → get_or (map f l) k e ≡ f (get_or l k d)
-get_d-map-below f [] k d e h = absurd (not-suc-le-zero h)
-get_d-map-below f (x ∷ xs) zero d e h = refl
-get_d-map-below f (x ∷ xs) (suc k) d e h = get_d-map-below f xs k d e (le_of_suc-le-suc h)
+pub get_or-map-below : {A B : Type 0} (f : A → B) (l : List A) (k : ℕ) (d : A) (e : B) → k < length l → get_or (map f l) k e ≡ f (get_or l k d)
+get_or-map-below f [] k d e h = absurd (not-suc-le-zero h)
+get_or-map-below f (x ∷ xs) zero d e h = refl
+get_or-map-below f (x ∷ xs) (suc k) d e h = get_or-map-below f xs k d e (le_of_suc-le-suc h)
 
 -- ---- packing
 

@@ -1,0 +1,7 @@
+use Rattle.board.proofs.mode.Results.{pause-gives}
+use borrow.Author.Rules.{rules}
+use mir.Facts.{to_z-of_z}
+use Rattle.firmware.proofs.value.pause.Goals as goal
+
+pub returns : goal.returns
+returns c = (pause-gives _ (to_z-of_z c.ranges.track) c.mode_call.ensures.0, c.mode_call.ensures.1)

@@ -1,0 +1,8 @@
+use borrow.Author.Rules.{rules}
+use native.Mathlib.Omega.{arith}
+use mir.Syntax.{w64}
+use mir.Facts.{to_z_pos}
+use Rattle.script.proofs.number.plus.Goals as goal
+
+pub returns : goal.returns
+returns c = to_z_pos w64 (omega arith)

@@ -1,0 +1,19 @@
+use Prim.Native.Nat.{ℕ, ◌*◌, ◌-◌, ◌≤◌}
+use Rattle.script.proofs.run.Runs.{goes_none, goes_on, goes-text, goes-line, goes-open}
+use Rattle.script.specs.Run.{Goes}
+use borrow.Author.Tests.{not-true, not-false}
+use lib.ListN.{length, take, drop}
+use mathlib.Core.Bool.{true}
+use mathlib.Core.List.{List, ◌++◌, append-nil}
+use mathlib.Core.Path.{◌≡◌, refl, ap, sym, ◌∙◌}
+use native.Mathlib.Omega.{arith}
+use borrow.Author.Rules.{rules}
+use Rattle.script.specs.Text.{line_room}
+use Rattle.script.proofs.run.feed.Given as goal
+
+abbrev pub invariant-loop-out : goal.invariant-loop-out
+invariant-loop-out l = (l.used ≤ length l.initial.out) × (length l.out ≡ length l.initial.out) × (length l.log ≡ length l.initial.log) × (l.at ≤ l.next) × (l.used ≤ line_room * (l.next - l.at))
+    × Goes (record { reader = l.initial.reader; board = l.initial.board }) (drop l.at l.piece) l.initial.log (take l.used l.out) (record { reader = l.reader; board = l.board }) (drop l.next l.piece) l.log
+
+abbrev pub decreases-loop-out : goal.decreases-loop-out
+decreases-loop-out l = length l.piece - l.next

@@ -1,0 +1,14 @@
+use Prim.Native.Nat.{◌≤◌, ◌<◌, ◌-◌, ◌^◌}
+use Rattle.script.proofs.text.Written.{room, digit-next, digit-last}
+use Rattle.script.specs.Text.{digits_most, digits_then, decimal}
+use lib.ListN.{length, drop, length-set}
+use mathlib.Core.Path.{◌≡◌, refl, ◌∙◌}
+use native.Mathlib.Omega.{arith}
+use borrow.Author.Rules.{rules}
+use Rattle.script.proofs.text.digits_of.Given as goal
+
+abbrev pub invariant-loop-v : goal.invariant-loop-v
+invariant-loop-v l = (1 ≤ l.i) × (l.i ≤ digits_most) × (l.v < 18446744073709551616) × (l.v < 10 ^ l.i) × (length l.bytes ≡ digits_most) × (digits_then l.i l.v (drop l.i l.bytes) ≡ decimal l.n)
+
+abbrev pub decreases-loop-v : goal.decreases-loop-v
+decreases-loop-v l = l.v
