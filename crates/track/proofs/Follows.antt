@@ -1,5 +1,5 @@
 -- Followers: the test of their rules says whether they keep them, and what a pass over a row of thresholds comes to.
-use Prim.Native.Nat.{ℕ, zero, suc, ◌+◌, ◌-◌, ◌≤◌, ◌<◌}
+use Prim.Native.Nat.{ℕ, zero, suc, ◌+◌, ◌≤◌, ◌<◌}
 use mathlib.Core.Path.{◌≡◌, refl, sym, ◌∙◌, ap}
 use mathlib.Core.Bool.{Bool, true, false, not, ◌&&◌, ◌||◌, and-true, and-false, false≢true}
 use mathlib.Core.List.{List, [], ◌∷◌}
@@ -11,12 +11,12 @@ use lib.Seq.{drop-cons}
 use borrow.Author.Tests.{eqb-true, leb-true, lt-ltb, le-ltb, le-leb, lt-leb, eq-eqb, ne_eqb}
 use Rattle.track.specs.declared.Track.{Track}
 use Rattle.track.specs.declared.Ticks.{Ticks}
-use Rattle.track.specs.Rule.{every, STOPPED, threshold_count, threshold_most, event_most, Valid, Sound, moved, stopped, with_remainder, entered}
+use Rattle.track.specs.Rule.{every, STOPPED, threshold_count, threshold_most, event_most, Sound, moved, stopped, with_remainder, entered}
 use Rattle.track.specs.Walk.{stops, visited, step}
 use Rattle.track.specs.Stride.{stride}
 use Rattle.track.specs.Leap.{moves, remainder_left, played, steps_in, remainder_after, leap}
 use Rattle.track.specs.Follow.{up_to_zero, thresholds_of, distance, apart, band_of, judged, banded, following, zeros_test, pairs_test, Follower, follower_test}
-use Rattle.track.proofs.Tests.{cond_cases, every_of, every-is, both, refuted}
+use Rattle.track.proofs.Tests.{cond_cases, every_of, every-is, refuted}
 
 -- ---- a row of thresholds up to its first 0
 

@@ -2,18 +2,18 @@
 use Prim.Native.Nat.{ℕ, zero, suc, ◌+◌, ◌-◌, ◌*◌, ◌/◌, ◌%◌, ◌≤◌, ◌<◌, min}
 use mathlib.Core.Path.{◌≡◌, refl, sym, ◌∙◌, ap, ap₂}
 use mathlib.Core.Bool.{Bool, true, false, cond}
-use native.Mathlib.Nat.{add-zero, div-one, mod-one, mul-one, mod-lt, div-add-mod', mod-eq_of_lt, mod-eq-sub-mod, div-eq_of_lt, mul-add-div_right}
+use native.Mathlib.Nat.{div-one, mod-lt, mod-eq_of_lt, mod-eq-sub-mod, div-eq_of_lt, mul-add-div_right}
 use native.Mathlib.Omega.{arith}
 use lib.Dec.{leb, eqb}
-use borrow.Author.Tests.{eqb-true, leb-true, leb-false, le-leb, lt-leb}
+use borrow.Author.Tests.{eqb-true, leb-true, leb-false, le-leb}
 use Rattle.track.specs.declared.Track.{Track}
-use Rattle.track.specs.Rule.{STOPPED, WAITING, clock_end, Valid, moved, with_remainder}
+use Rattle.track.specs.Rule.{STOPPED, WAITING, clock_end, Valid, with_remainder}
 use Rattle.track.specs.Walk.{arrival, passes_at, stops, visited, step}
 use Rattle.track.specs.Stride.{next, stride}
 use Rattle.track.specs.Leap.{added, moves, remainder_left, played, steps_in, remainder_after, leap, ticks_before}
 use Rattle.track.proofs.Tests.{cond_cases}
 use Rattle.track.proofs.Rates.{steps-zero, remainder-zero, steps-add, remainder-add, steps-few, not-before, made-till, made_then}
-use Rattle.track.proofs.Arrivals.{put-valid, remainder-valid, step-valid, step-passes}
+use Rattle.track.proofs.Arrivals.{remainder-valid, step-valid, step-passes}
 use Rattle.track.proofs.Strides.{stride-valid, stride-zero, stride-suc, stride-add, stride-passes}
 
 -- the remainder is nothing to the walk: where a step arrives, whether it stops the track, where strides lead

@@ -1,7 +1,7 @@
 -- Slower tracks (02, 2.4), by examples and small laws: 2 in 5, 1 in q, q in q; what clears the remainder and what keeps it; what the call of a
 -- rate is refused.
-use Prim.Native.Nat.{ℕ, suc, ◌+◌, ◌-◌, ◌*◌, ◌/◌, ◌%◌, ◌≤◌, ◌<◌, min}
-use mathlib.Core.Path.{◌≡◌, refl, sym, ◌∙◌, ap}
+use Prim.Native.Nat.{ℕ, suc, ◌+◌, ◌-◌, ◌*◌, ◌/◌, ◌%◌, ◌≤◌, ◌<◌}
+use mathlib.Core.Path.{◌≡◌, refl, ◌∙◌, ap}
 use mathlib.Core.Bool.{Bool, true, false, cond}
 use native.Mathlib.Nat.{div-one, mod-eq_of_lt, div-eq_of_lt, mul-add-div_right, mul-add-mod_self_right}
 use native.Mathlib.Omega.{arith}
@@ -17,7 +17,7 @@ use Rattle.track.specs.declared.setup.Change.TheVariants as change
 use Rattle.track.specs.declared.setup.Changed.{Changed}
 use Rattle.track.specs.declared.setup.Answer.{Answer}
 use Rattle.track.specs.declared.setup.Answer.TheVariants.{Accepted, Refused}
-use Rattle.track.specs.Rule.{STOPPED, DUE, clock_end, rate_most, Valid, moved, paced, rewound, stopped, entered}
+use Rattle.track.specs.Rule.{STOPPED, DUE, rate_most, Valid, moved, paced, rewound, stopped, entered}
 use Rattle.track.specs.Number.{natural_of, coordinate_of, within, on_natural, on_place}
 use Rattle.track.specs.Leap.{added, moves, remainder_left, steps_in, remainder_after, leap, ticks_before}
 use Rattle.track.specs.Setup.{refused, accepted, turned, closes, turned_to, jump_to, rate_set, set_by, permits, changed_by}

@@ -1,7 +1,7 @@
 -- Steps and remainder of ticks at a rate of p steps in q ticks, in plain numbers: r is the remainder at first.
 use Prim.Native.Nat.{ℕ, suc, ◌+◌, ◌-◌, ◌*◌, ◌/◌, ◌%◌, ◌≤◌, ◌<◌}
-use mathlib.Core.Path.{◌≡◌, refl, sym, ap, ap₂, ◌∙◌}
-use native.Mathlib.Nat.{div-one, mod-one, mod-lt, mod-eq_of_lt, div-eq_of_lt, div-add-mod', add-mul, zero-mul, mul-add-div_right, mul-add-mod_self_right, div-lt_iff_lt-mul, le-div_iff_mul-le, lt-div-mul-add, div-mul-le_self, mul-le-mul_left, mul-le-mul_right}
+use mathlib.Core.Path.{◌≡◌, sym, ap, ap₂, ◌∙◌}
+use native.Mathlib.Nat.{div-one, mod-one, mod-eq_of_lt, div-eq_of_lt, div-add-mod', add-mul, zero-mul, mul-add-div_right, mul-add-mod_self_right, div-lt_iff_lt-mul, le-div_iff_mul-le, lt-div-mul-add, mul-le-mul_left}
 use native.Mathlib.Omega.{arith}
 
 module _ (q p r : ℕ) (some : 0 < q) where

@@ -1,5 +1,5 @@
 -- A track's state and rules (01, "Track").
-use Rattle.std.specs.Prelude.{ℕ, ◌+◌, ◌*◌, ◌≤◌, ◌<◌, Bool, cond, true, false, not, ◌&&◌, ◌||◌, ◌≡◌, List, [], ◌∷◌, replicate, get_or, length, ltb, leb, eqb}
+use Rattle.std.specs.Prelude.{ℕ, ◌+◌, ◌*◌, ◌≤◌, ◌<◌, Bool, cond, true, not, ◌&&◌, ◌||◌, ◌≡◌, List, [], ◌∷◌, replicate, get_or, length, ltb, leb, eqb}
 use Rattle.track.specs.declared.Track.{Track}
 use Rattle.track.specs.declared.Coordinate.{Coordinate}
 use Rattle.track.specs.declared.Ticks.{Ticks}

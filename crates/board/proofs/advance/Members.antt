@@ -6,7 +6,7 @@ use mathlib.Core.List.{List, [], ◌∷◌, ◌++◌, append_assoc}
 use native.Mathlib.Omega.{arith}
 use lib.Count.{count_trailing_zeros, ones, ones_in}
 use lib.ListN.{length, take, drop, set, length-append, length-set}
-use lib.Seq.{take_at, length-take-le, get_or-set_other}
+use lib.Seq.{take_at, length-take-le}
 use Rattle.track.specs.declared.Track.{Track}
 use Rattle.track.specs.Rule.{Valid}
 use Rattle.track.specs.Walk.{arrival}
@@ -15,13 +15,12 @@ use Rattle.board.specs.declared.Board.{Board}
 use Rattle.board.specs.declared.log.Record.{Record}
 use Rattle.board.specs.Log.{write_at, record_width, log_bytes}
 use Rattle.board.specs.Points.{ascending_from, key, keys_of, infos_of, waits, command_of, target_of, track_count}
-use Rattle.board.specs.Board.{no_track, track_at, is_present, points_test}
+use Rattle.board.specs.Board.{track_at, is_present, points_test}
 use Rattle.board.specs.Tick.{Stage, staged, step_records, reached_by, found_by, step_member, step_all, run_all, play_from, playing_word, InfoRule, TracksRule, tick_most}
 use Rattle.board.specs.Tick.{members}
 use Rattle.board.specs.Replay.{Each}
 use Rattle.board.specs.Quiet.{CanLeap, Leapable}
-use Rattle.board.proofs.points.Keys.{ascending-head, ascending-rest}
-use Rattle.board.proofs.points.Rows.{ascending-weaken}
+use Rattle.board.proofs.points.Keys.{ascending-rest}
 use Rattle.board.proofs.tick.Staging.{length-log, log-append, step-most, reached-most}
 use Rattle.board.proofs.tick.Commands.{each_set, tracks_run, records_run, run-apart, run_more, run-most}
 use Rattle.board.proofs.log.Words.{length-write}

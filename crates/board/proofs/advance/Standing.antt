@@ -176,8 +176,7 @@ module _ {b : Board} {count : ℕ} {log₀ log : List ℕ} {ts : List Track} {cl
 
     pub starts-none : {room unleapt : ℕ} {us back : List Track} → skipped ≡ 0 → us ≡ ts → unleapt ≡ skipped → back ≡ ts → Starts room unleapt us back
     starts-none z eu e eb =
-        let still = unbroken-leapable _ whole in
-        (
+        let still = unbroken-leapable _ whole in (
           begins-before b.present skipped ts s.going.tracks_long eu e still,
           λ _. eb ∙ sym (ap (λ (k : ℕ). leap_tracks k b.present ts) z ∙ leap-tracks-zero b.present ts s.going.tracks_long still),
         )

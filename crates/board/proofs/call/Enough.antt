@@ -16,7 +16,6 @@ use Rattle.board.specs.declared.Board.{Board}
 use Rattle.board.specs.declared.setup.Outcome.{Outcome}
 use Rattle.board.specs.declared.call.Pairs.{Pairs}
 use Rattle.board.specs.declared.call.Pairs.TheVariants as pairs
-use Rattle.board.specs.Points.{ascending_from}
 use Rattle.board.specs.Board.{track_at}
 use Rattle.board.specs.Setup.{accepted, refused, board_with, on_unbroken, on_track}
 use Rattle.board.specs.Setup.{is_in, ranged_test, thresholds_in, events_in, rising_test, row_of, master_named, put_master, set_master}

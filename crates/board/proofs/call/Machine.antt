@@ -16,8 +16,7 @@ use Rattle.track.specs.declared.setup.Change.{Change}
 use Rattle.track.specs.Rule.{WAITING, clock_end, entered}
 use Rattle.track.specs.Grid.{PLAY, PAUSE, RESUME, STOP, grid_of}
 use Rattle.track.proofs.Tests.{cond_cases}
-use Rattle.board.specs.Log.{write_at, record_width, record_bytes, log_bytes, capacity}
-use Rattle.track.proofs.Arrivals.{entered-valid, entered-passes}
+use Rattle.board.specs.Log.{record_width, record_bytes, log_bytes, capacity}
 use Rattle.board.specs.declared.Board.{Board}
 use Rattle.board.specs.declared.log.Record.{Record}
 use Rattle.board.specs.declared.setup.Outcome.{Outcome}
@@ -28,8 +27,8 @@ use Rattle.board.specs.Setup.{board_with, set_up, add_track, set_point, drop_poi
 use Rattle.board.specs.Tick.{tick_of}
 use Rattle.board.specs.Mode.{ModeResult, declined, call_records, changing, changes_to, decided, mode_result}
 use Rattle.board.specs.Cut.{ticks, Part, run, one}
-use Rattle.board.specs.Replay.{Made, World, flat, wrote, w-halt, w-bar, w-step, perform}
-use Rattle.board.specs.Call.{refused, answered, Stop, ends, fills, stopped_by, Reason, stopped, refused_with, taken_in, why_not, ticked, grown_by, halt_of, bar_of, made_of, made_by, pair_numbers, says_of, makes_of, is_accepted, clears_of, gridstep, run_count, does, world, Gives}
+use Rattle.board.specs.Replay.{Made, World, flat, w-halt, w-bar, w-step, perform}
+use Rattle.board.specs.Call.{refused, Stop, ends, fills, stopped_by, Reason, stopped, refused_with, taken_in, why_not, ticked, grown_by, halt_of, bar_of, made_of, pair_numbers, makes_of, is_accepted, clears_of, gridstep, does}
 use Rattle.board.proofs.log.Records.{length-record}
 use Rattle.board.proofs.rules.Broken.{unbroken-of, unbroken-is}
 use Rattle.board.proofs.setup.Ways.{by-natural, set-up-ways, add-track-ways, set-point-ways, drop-point-ways, set-master-ways, clear-ways}
@@ -39,7 +38,7 @@ use Rattle.board.proofs.tick.Steps.{entered-bounded, entered-sound, tick-keeps}
 use Rattle.track.proofs.Follows.{entered-follower}
 use Rattle.board.proofs.setup.Keeping.{put-track-whole, held_whole, set-up-whole, add-track-whole, set-point-whole, drop-point-whole, set-master-whole, clear_whole}
 use Rattle.board.proofs.replay.Cuts.{ticks-on, ticks-off, advance-in, advance-out, Read}
-use Rattle.board.proofs.replay.Replays.{Counts, Leaves, Room, sets-write}
+use Rattle.board.proofs.replay.Replays.{Counts, Leaves, Room}
 
 -- the bytes of records, as the theory of lists has them
 pub flat-is : (rs : List Record) → flat gridstep rs ≡ log_bytes rs

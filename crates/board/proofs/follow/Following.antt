@@ -2,9 +2,9 @@
 use mathlib.Core.Path.{◌≡◌, refl, sym, ap, subst, ◌∙◌}
 use mathlib.Core.Bool.{Bool, true, false, cond, not, ◌||◌}
 use mathlib.Core.List.{List, [], ◌∷◌, ◌++◌, append-nil, append_assoc}
-use Prim.Native.Nat.{ℕ, zero, suc, ◌+◌, ◌-◌, ◌*◌, ◌/◌, ◌%◌, ◌^◌, ◌≤◌, ◌<◌, suc-le-suc}
+use Prim.Native.Nat.{ℕ, zero, suc, ◌+◌, ◌-◌, ◌*◌, ◌/◌, ◌%◌, ◌^◌, ◌≤◌, ◌<◌}
 use native.Mathlib.Omega.{arith}
-use native.Mathlib.Nat.{add-zero, zero-add, add-suc, suc-add, zero-div}
+use native.Mathlib.Nat.{zero-add, zero-div}
 use lib.Dec.{eqb}
 use lib.ListN.{length, set, get_or, length-append, length-set}
 use lib.Seq.{set-get_or}
@@ -17,7 +17,7 @@ use Rattle.board.specs.declared.log.Record.{Record}
 use Rattle.board.specs.Points.{track_count}
 use Rattle.board.specs.Replay.{Each}
 use Rattle.board.specs.Board.{no_track, track_at, is_present}
-use Rattle.board.specs.Tick.{keep, members_from, members, record_of, playing_word, Stage, staged}
+use Rattle.board.specs.Tick.{members, record_of, playing_word, Stage, staged}
 use Rattle.board.specs.Tick.{follow_bit, follow_word, band_records, follow_member, follow_all, band_bit, band_count}
 use Rattle.board.proofs.rules.Broken.{present-bit, half-bit}
 use Rattle.board.proofs.tick.Bits.{each_from}

@@ -23,7 +23,7 @@ use Rattle.board.specs.Setup.{set_up, add_track, set_point, drop_point, set_mast
 use Rattle.board.specs.Query.{clock_of, track_of, point_in, count_in, none_read}
 use Rattle.board.specs.Mode.{mode_result}
 use Rattle.board.specs.Replay.{World}
-use Rattle.board.specs.Call.{answered, clock_said, track_said, point_said, count_said, advanced_said, Stop}
+use Rattle.board.specs.Call.{answered, clock_said, track_said, point_said, count_said, advanced_said}
 use Rattle.board.specs.Call.{pair_numbers, says_of, run_count, does}
 use Rattle.board.specs.Row.{numbers_of}
 use Rattle.board.proofs.rules.Present.{found_in_lem}

@@ -15,7 +15,7 @@ use Rattle.board.specs.declared.log.Record.{Record}
 use Rattle.board.specs.Board.{track_at}
 use Rattle.board.specs.Setup.{board_with}
 use Rattle.board.specs.Replay.{World}
-use Rattle.board.specs.Call.{Reply, accepted, refused, done, held_at, world}
+use Rattle.board.specs.Call.{accepted, refused, done, held_at, world}
 use Rattle.board.proofs.lists.Runs.{ran, shown, alike}
 use Rattle.board.proofs.lists.Cards.{track, dir, jump, point, play, pause, resume, stop, advance, fresh, printed, clock_at}
 use Rattle.board.proofs.lists.Examples.{Alike}

@@ -15,7 +15,7 @@ use Rattle.board.specs.Setup.{board_with}
 use Rattle.board.specs.Replay.{World}
 use Rattle.board.specs.Call.{accepted, refused, done, log_full, held_at, world}
 use Rattle.board.proofs.lists.Runs.{ran, alike}
-use Rattle.board.proofs.lists.Cards.{track, jump, point, play, pause, stop, advance, fresh, clock_at}
+use Rattle.board.proofs.lists.Cards.{jump, point, play, pause, stop, advance, fresh, clock_at}
 use Rattle.board.proofs.lists.FollowerCards.{master, one, two, both_tracks, pair, runs_ahead, turns_back, bytes}
 use Rattle.board.proofs.lists.Rejected.{after, broken, position, Claim, gives, Refuted, Unsaid, Unless, agrees, none_agrees, refute, unsaid}
 

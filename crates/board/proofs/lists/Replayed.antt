@@ -38,7 +38,6 @@ use Rattle.board.proofs.replay.Cuts.{recut, cut, advance-add, advance-in, advanc
 use Rattle.board.proofs.replay.Replays.{shown-takes, w_kept, agrees, rows, cuts}
 use Rattle.board.proofs.replay.Kinds.{kinds, gathered-length, total-same}
 use Rattle.board.proofs.call.Machine.{counts, room, kept, read, call-whole}
-use Rattle.board.proofs.call.Refusals.{silent}
 use Rattle.board.proofs.call.Enough.{SameMaster, pairs_of, pairs-enough}
 use Rattle.board.proofs.lists.Reports.{tick-points, call-points}
 use Rattle.board.proofs.call.Leaving.{add-track-leaves, set-up-leaves, set-point-leaves, drop-point-leaves, set-master-leaves, clear-leaves}

@@ -13,7 +13,6 @@ use Rattle.board.specs.Log.{write_at}
 use Rattle.board.specs.Cut.{Ran, Did, All, ticks, advance, Part, run, one, merge, observe, performs}
 use Rattle.board.specs.Replay.{Made, Rules, World, State, flat, wrote, w-halt, w-bar, w-step, perform}
 use Rattle.board.specs.Replay.{puts, takes, r-halt, r-bar, r-step, replay, shown, written, writtens, cleared_by, cleared_at}
-use Rattle.board.specs.Replay.{only}
 use Rattle.board.proofs.replay.Cuts.{ticks-on, ticks-off, advance-in, advance-out}
 use Rattle.board.proofs.replay.Cuts.{mapped-did, advance-map, Read, advance-add, cut}
 

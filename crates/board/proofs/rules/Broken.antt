@@ -19,7 +19,7 @@ use Rattle.track.proofs.Follows.{SameFollower, follower-of, follower-is, followe
 use Rattle.board.specs.declared.Board.{Board}
 use Rattle.board.specs.declared.points.Point.{Point}
 use Rattle.board.specs.Points.{point_most, ascending_from, point_of, track_count}
-use Rattle.board.specs.Board.{track_at, is_present, master_test, PointRule, Shaped, Unbroken, track_test, tracks_test, place_test, allowed_test, points_test, shape_test, unbroken_parts, unbroken_test}
+use Rattle.board.specs.Board.{track_at, is_present, master_test, PointRule, Unbroken, track_test, tracks_test, place_test, allowed_test, points_test, shape_test, unbroken_parts, unbroken_test}
 
 -- ---- presence
 

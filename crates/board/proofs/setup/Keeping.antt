@@ -23,9 +23,9 @@ use Rattle.board.specs.declared.points.Point.{Point}
 use Rattle.board.specs.declared.points.Points.{Points}
 use Rattle.board.specs.declared.setup.Outcome.{Outcome}
 use Rattle.board.specs.Points.{ascending_from, no_points, point_of, key_of, info_of, stored_in, dropped_from, track_count}
-use Rattle.board.specs.Board.{track_at, no_track, is_present, master_test, PointRule, Unbroken, unbroken_test, fresh_board}
+use Rattle.board.specs.Board.{track_at, no_track, is_present, master_test, PointRule, Unbroken, fresh_board}
 use Rattle.board.specs.Setup.{board_with, set_up, add_track, set_point, drop_point, clear_board}
-use Rattle.board.specs.Setup.{ranged_test, thresholds_in, events_in, rising_test, row_of, master_named, set_master}
+use Rattle.board.specs.Setup.{thresholds_in, events_in, row_of, master_named, set_master}
 use Rattle.board.proofs.rules.Broken.{present-small, present-set, present-bit, half-bit, master-same, master-still}
 use Rattle.board.proofs.rules.Present.{with-track-fits}
 use Rattle.board.proofs.points.Keys.{same_or_not}

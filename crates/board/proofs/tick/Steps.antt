@@ -1,11 +1,11 @@
 -- A whole tick: what it does at every index, how much it writes, and that it keeps the rules of a board.
 use mathlib.Core.Path.{◌≡◌, refl, sym, ap, subst, ◌∙◌}
-use mathlib.Core.Bool.{Bool, true, false, cond, ◌&&◌}
+use mathlib.Core.Bool.{Bool, true, false, ◌&&◌}
 use mathlib.Core.List.{List, [], ◌∷◌, ◌++◌, append-nil, append_assoc}
 use Prim.Native.Nat.{ℕ, zero, suc, ◌+◌, ◌*◌, ◌/◌, ◌%◌, ◌≤◌, ◌<◌}
 use native.Mathlib.Omega.{arith}
 use lib.Dec.{eqb, leb}
-use lib.ListN.{length, set, get_or, length-append, length-set}
+use lib.ListN.{length, set, length-append, length-set}
 use borrow.Author.Tests.{eqb-true, eqb-false, le-leb}
 use Rattle.track.specs.declared.Track.{Track}
 use Rattle.track.specs.declared.Ticks.{Ticks}
@@ -24,7 +24,7 @@ use Rattle.board.specs.Points.{point_most, ascending_from, keys_of, infos_of, po
 use Rattle.board.specs.Board.{track_at, is_present, place_test, allowed_test, tracks_test, points_test, shape_test, unbroken_parts, unbroken_test}
 use Rattle.board.specs.Replay.{Each}
 use Rattle.board.specs.Tick.{keep, members_from, members, follow_word, band_count, play_from, tick_most}
-use Rattle.board.specs.Tick.{Stage, staged, found_by, step_records, reached_by, step_member, step_all, playing_word, tick_from, tick_of, InfoRule, TracksRule}
+use Rattle.board.specs.Tick.{Stage, staged, found_by, step_records, reached_by, step_member, step_all, playing_word, tick_from, tick_of}
 use Rattle.board.proofs.rules.Broken.{Kept, kept_same, kept-banded, tracks-at, tracks-are, shape_same}
 use Rattle.board.proofs.points.Keys.{ascending-head, ascending-rest, ascending-cons}
 use Rattle.board.proofs.tick.Staging.{step-most, reached-most}

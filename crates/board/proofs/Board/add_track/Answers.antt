@@ -2,15 +2,14 @@ use Rattle.board.proofs.call.Leaving.{add-track-leaves}
 use Prim.Native.Nat.{◌<◌}
 use Rattle.board.proofs.rules.Broken.{unbroken-of}
 use Rattle.board.proofs.setup.Guards.{track-added}
-use Rattle.board.specs.Setup.{add_track, accepted}
+use Rattle.board.specs.Setup.{add_track}
 use Rattle.board.specs.Board.{Unbroken, unbroken_test}
 use Rattle.track.proofs.Numbers.{told, natural-in, natural-out, natural-take, place_out, place-take}
 use Rattle.track.proofs.Tests.{cond_yes, cond_no}
 use Rattle.track.specs.Number.{natural_of, coordinate_of}
 use Rattle.track.specs.declared.number.Natural.TheVariants.{In}
 use Rattle.track.specs.declared.number.Natural.{Natural}
-use borrow.Author.Rules.{rules}
-use borrow.Author.Tests.{lt-ltb, le-ltb, not-true, not-false}
+use borrow.Author.Tests.{lt-ltb, le-ltb}
 use lib.IntN.{ℤ}
 use mathlib.Core.Bool.{true}
 use mathlib.Core.Path.{◌≡◌, ◌∙◌, sym}
@@ -102,7 +101,7 @@ pub bounds-board-at : goal.bounds-board-at
 bounds-board-at c = let l = small c in let s = (kept c).shape in omega arith
 
 pub with_track-requires : goal.with_track-requires
-with_track-requires c = record { track_value = sym c.is_present.ensures ∙ c.if-is_present.false; track_lt_track_count = small c; }
+with_track-requires c = record { track_value = sym c.is_present.ensures ∙ c.if-is_present.false; track_lt_track_count = small c }
 
 number-After-accepted : (c : goal.After-accepted) → at c.args.number ≡ In c.in-In.i
 number-After-accepted c = told at c.ranges.number c.in_range.ensures c.in-In.is

@@ -2,8 +2,6 @@ use Rattle.board.proofs.call.Leaving.{clear-leaves}
 use Rattle.board.specs.Setup.{clear_board}
 use Rattle.board.specs.Board.{unbroken_test}
 use Rattle.track.proofs.Tests.{cond_yes, cond_no}
-use borrow.Author.Rules.{rules}
-use borrow.Author.Tests.{not-true, not-false}
 use mathlib.Core.Bool.{true}
 use mathlib.Core.Path.{◌≡◌, ◌∙◌, sym}
 use Rattle.board.proofs.Board.clear.Goals as goal

@@ -112,7 +112,7 @@ kept-After-struct_known-1 : (c : goal.After-struct_known-1) → Unbroken c.args.
 kept-After-struct_known-1 c = unbroken-of _ (whole-After-struct_known-1 c)
 
 pub dropped-dropped-requires : goal.dropped-dropped-requires
-dropped-dropped-requires c = let u = kept-After-struct_known-1 c in record { count_le_point_most = u.count; self_value = u.order; }
+dropped-dropped-requires c = let u = kept-After-struct_known-1 c in record { count_le_point_most = u.count; self_value = u.order }
 
 -- the track that is found
 number-After-refused-then-not-dropped : (c : goal.After-refused-then-not-dropped) → found_in c.args.self.present c.args.track ≡ In c.in-In.i

@@ -1,5 +1,4 @@
 use Rattle.board.specs.Board.{fresh_board}
-use borrow.Author.Rules.{rules}
 use Rattle.board.proofs.Board.new.Goals as goal
 
 pub returns : goal.returns

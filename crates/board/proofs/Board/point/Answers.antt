@@ -10,8 +10,6 @@ use Rattle.track.proofs.Tests.{cond_yes, cond_no}
 use Rattle.track.specs.Number.{coordinate_of}
 use Rattle.track.specs.declared.number.Natural.TheVariants.{In}
 use Rattle.track.specs.declared.number.Place.TheVariants.{At}
-use borrow.Author.Rules.{rules}
-use borrow.Author.Tests.{not-true, not-false}
 use mathlib.Core.Bool.{true}
 use mathlib.Core.Path.{◌≡◌, ◌∙◌, sym, refl}
 use native.Mathlib.Omega.{arith}
@@ -80,7 +78,7 @@ kept-After-info_at-arg-4-1 : (c : goal.After-info_at-arg-4-1) → Unbroken c.arg
 kept-After-info_at-arg-4-1 c = unbroken-of _ (whole-After-info_at-arg-4-1 c)
 
 pub info_at-info-requires : goal.info_at-info-requires
-info_at-info-requires c = let u = kept-After-info_at-arg-4-1 c in let s = (kept-After-info_at-arg-4-1 c).shape in record { n_in_bounds = (omega arith, omega arith); keys_value = u.order; }
+info_at-info-requires c = let u = kept-After-info_at-arg-4-1 c in let s = (kept-After-info_at-arg-4-1 c).shape in record { n_in_bounds = (omega arith, omega arith); keys_value = u.order }
 
 -- the track that is found
 number-Then-info-eq0 : (c : goal.Then-info-eq0) → found_in c.args.self.present c.args.track ≡ In c.in-In.i

@@ -10,8 +10,6 @@ use Rattle.track.proofs.Numbers.{told, natural-out, natural-take, clamped-most}
 use Rattle.track.proofs.Tests.{cond_yes, cond_no}
 use Rattle.track.specs.Number.{clamped_of}
 use Rattle.track.specs.declared.number.Natural.TheVariants.{In}
-use borrow.Author.Rules.{rules}
-use borrow.Author.Tests.{not-true, not-false}
 use mathlib.Core.Bool.{true}
 use mathlib.Core.Path.{◌≡◌, ◌∙◌, sym, ap, refl}
 use mir.Facts.{to_z-of_z}
@@ -70,7 +68,7 @@ kept-After-count_between-arg-2-1 : (c : goal.After-count_between-arg-2-1) → Un
 kept-After-count_between-arg-2-1 c = unbroken-of _ (whole-After-count_between-arg-2-1 c)
 
 pub count_between-counted-requires : goal.count_between-counted-requires
-count_between-counted-requires c = let u = kept-After-count_between-arg-2-1 c in let s = (kept-After-count_between-arg-2-1 c).shape in record { n_in_bounds = omega arith; keys_value = u.order; }
+count_between-counted-requires c = let u = kept-After-count_between-arg-2-1 c in let s = (kept-After-count_between-arg-2-1 c).shape in record { n_in_bounds = omega arith; keys_value = u.order }
 
 -- the board keeps its rules
 whole-After-count_between-counted : (c : goal.After-count_between-counted) → unbroken_test c.args.self ≡ true

@@ -7,8 +7,6 @@ use Rattle.board.specs.Setup.{set_master}
 use Rattle.track.proofs.Numbers.{told, natural-out, natural-take}
 use Rattle.track.proofs.Tests.{cond_yes, cond_no}
 use Rattle.track.specs.declared.number.Natural.TheVariants.{In}
-use borrow.Author.Rules.{rules}
-use borrow.Author.Tests.{not-true, not-false}
 use mathlib.Core.Bool.{true}
 use mathlib.Core.Path.{◌≡◌, ◌∙◌, sym}
 use Rattle.board.proofs.Board.set_master.Goals as goal

@@ -138,7 +138,7 @@ kept-After-info : (c : goal.After-info) → Unbroken c.args.self
 kept-After-info c = unbroken-of _ (whole-After-info c)
 
 pub stored-stored-requires : goal.stored-stored-requires
-stored-stored-requires c = let u = kept-After-info c in record { count_le_point_most = u.count; self_value = u.order; }
+stored-stored-requires c = let u = kept-After-info c in record { count_le_point_most = u.count; self_value = u.order }
 
 -- the track that is found
 number-After-refused-then-not-stored : (c : goal.After-refused-then-not-stored) → found_in c.args.self.present c.args.track ≡ In c.in-In.i

@@ -10,7 +10,6 @@ use Rattle.track.specs.declared.Track.{Track}
 use Rattle.track.specs.declared.number.Natural.TheVariants.{In}
 use Rattle.track.specs.declared.setup.Answer.TheVariants.{Refused}
 use borrow.Author.Rules.{rules}
-use borrow.Author.Tests.{not-true, not-false}
 use mathlib.Core.Bool.{true}
 use mathlib.Core.Path.{◌≡◌, ◌∙◌, sym, ap, refl}
 use native.Mathlib.Omega.{arith}

@@ -1,5 +1,4 @@
 use Rattle.board.proofs.advance.Advancing.{advance-told}
-use borrow.Author.Rules.{rules}
 use mir.Facts.{to_z-of_z}
 use Rattle.board.proofs.advance.advance.Goals as goal
 

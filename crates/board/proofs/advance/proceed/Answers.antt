@@ -5,12 +5,9 @@ use Rattle.board.specs.declared.Board.{Board}
 use Rattle.track.proofs.Numbers.{told}
 use Rattle.track.specs.Number.{natural_of}
 use Rattle.track.specs.declared.number.Natural.{Natural}
-use borrow.Author.Rules.{rules}
-use borrow.Author.Tests.{not-true, not-false}
 use lib.IntN.{ℤ}
 use mathlib.Core.Bool.{true}
 use mathlib.Core.Path.{◌≡◌, sym, ◌∙◌}
-use native.Mathlib.Omega.{arith}
 use Rattle.board.proofs.advance.proceed.Goals as goal
 
 abbrev number : ℤ → Natural
@@ -55,7 +52,7 @@ whole-After-run-arg-1 : (c : goal.After-run-arg-1) → unbroken_test (board-Afte
 whole-After-run-arg-1 c = sym c.unbroken.ensures ∙ c.if-not-unbroken.false
 
 pub run-requires : goal.run-requires
-run-requires c = record { kept_value = whole-After-run-arg-1 c; kept_bound = c.if-capacity-kept.false; }
+run-requires c = record { kept_value = whole-After-run-arg-1 c; kept_bound = c.if-capacity-kept.false }
 
 -- the board of the parts
 abbrev board-After-slice_known-2-1 : goal.After-slice_known-2-1 → Board

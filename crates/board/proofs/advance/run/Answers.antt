@@ -41,8 +41,8 @@ leapt-moved-requires-clause-leapable c = leapable c.ticks.invariant
 skips-all : (c : goal.After-leapt-moved) → SkipsHere c.ticks.invariant c.ticks.look c.smaller-most.result c.if-look.skipped
 skips-all c =
     elim c.if-look.branch [
-      then-look w ↦ skips-looked c.ticks.invariant c.ticks.look w.quiet-stretch.ensures (w.skipped-is ∙ w.smaller-skipped.ensures)
-    | else-look w ↦ skips-none c.ticks.invariant w.if-look.false w.skipped-is
+      | then-look w ↦ skips-looked c.ticks.invariant c.ticks.look w.quiet-stretch.ensures (w.skipped-is ∙ w.smaller-skipped.ensures)
+      | else-look w ↦ skips-none c.ticks.invariant w.if-look.false w.skipped-is
     ]
 
 pub ticks-smaller-then-skipped-most : goal.ticks-smaller-then-skipped-most
@@ -63,15 +63,15 @@ pub loop-left-init : goal.loop-left-init
 loop-left-init c =
     let q : SkipsHere c.ticks.invariant c.ticks.look c.smaller-most.result c.if-look.skipped =
     elim c.if-look.branch [
-      then-look w ↦ skips-looked c.ticks.invariant c.ticks.look w.quiet-stretch.ensures (w.skipped-is ∙ w.smaller-skipped.ensures)
-    | else-look w ↦ skips-none c.ticks.invariant w.if-look.false w.skipped-is
+      | then-look w ↦ skips-looked c.ticks.invariant c.ticks.look w.quiet-stretch.ensures (w.skipped-is ∙ w.smaller-skipped.ensures)
+      | else-look w ↦ skips-none c.ticks.invariant w.if-look.false w.skipped-is
     ] in
     let short : c.if-look.skipped < c.smaller-most.result = omega (arith, q.few) in
     let s : Starts c.ticks.invariant q c.smaller-most.ensures (capacity (length c.args.log.now) - c.ticks.held) c.if-room-lt-MOST.skipped c.if-room-lt-MOST.tracks c.if-room-lt-MOST.back =
     elim c.if-room-lt-MOST.branch [
-      then-room-lt-MOST+then-skipped-gt0 w ↦ starts-leapt c.ticks.invariant q c.smaller-most.ensures w.leapt-moved-then-skipped-gt0.ensures w.tracks-is w.skipped-is w.back-is
-    | then-room-lt-MOST+else-skipped-gt0 w ↦ starts-none c.ticks.invariant q c.smaller-most.ensures (omega arith) w.tracks-is w.skipped-is w.back-is
-    | else-room-lt-MOST w ↦ starts-roomy c.ticks.invariant q c.smaller-most.ensures w.if-room-lt-MOST.false w.tracks-is w.skipped-is
+      | then-room-lt-MOST+then-skipped-gt0 w ↦ starts-leapt c.ticks.invariant q c.smaller-most.ensures w.leapt-moved-then-skipped-gt0.ensures w.tracks-is w.skipped-is w.back-is
+      | then-room-lt-MOST+else-skipped-gt0 w ↦ starts-none c.ticks.invariant q c.smaller-most.ensures (omega arith) w.tracks-is w.skipped-is w.back-is
+      | else-room-lt-MOST w ↦ starts-roomy c.ticks.invariant q c.smaller-most.ensures w.if-room-lt-MOST.false w.tracks-is w.skipped-is
     ] in
     record {
       pass = pass-start c.ticks.invariant q c.smaller-most.ensures c.ticks-test.true short s refl;
@@ -150,10 +150,10 @@ judge_bands-f-requires c =
     let p = c.loop-left.invariant.pass in
     let t : PlayedHere p c.if-more.tracks c.if-more.total c.if-more.stage c.if-more.word =
     elim c.if-more.branch [
-      then-more w ↦ turning-more _ _ _ _ _ p.word_is _ _ _ _ _ _ _ _ c.loop-left.invariant.turning c.loop-left-test.false
+      | then-more w ↦ turning-more _ _ _ _ _ p.word_is _ _ _ _ _ _ _ _ c.loop-left.invariant.turning c.loop-left-test.false
           (w.tracks-is ∙ w.run_commands-done.ensures.tracks) (w.total-is ∙ w.run_commands-done.ensures.count) (w.stage-is ∙ w.run_commands-done.ensures.bytes)
           (w.word-is ∙ w.run_commands-done.ensures.word ∙ ap (playing_word _) (sym w.tracks-is))
-    | else-more w ↦ turning-still _ _ _ _ _ p.word_is _ _ _ _ _ _ _ _ c.loop-left.invariant.turning c.loop-left-test.false w.if-more.false
+      | else-more w ↦ turning-still _ _ _ _ _ p.word_is _ _ _ _ _ _ _ _ c.loop-left.invariant.turning c.loop-left-test.false w.if-more.false
           w.tracks-is w.total-is w.stage-is w.word-is
     ] in
     record { follow_rules = pass-rules p t; record_width_in_bounds = played-room _ _ _ _ _ _ _ t }
@@ -163,17 +163,17 @@ commit-requires-clause-n_in_bounds_2 c =
     let p = c.loop-left.invariant.pass in
     let t : PlayedHere p c.if-more.tracks c.if-more.total c.if-more.stage c.if-more.word =
     elim c.if-more.branch [
-      then-more w ↦ turning-more _ _ _ _ _ p.word_is _ _ _ _ _ _ _ _ c.loop-left.invariant.turning c.loop-left-test.false
+      | then-more w ↦ turning-more _ _ _ _ _ p.word_is _ _ _ _ _ _ _ _ c.loop-left.invariant.turning c.loop-left-test.false
           (w.tracks-is ∙ w.run_commands-done.ensures.tracks) (w.total-is ∙ w.run_commands-done.ensures.count) (w.stage-is ∙ w.run_commands-done.ensures.bytes)
           (w.word-is ∙ w.run_commands-done.ensures.word ∙ ap (playing_word _) (sym w.tracks-is))
-    | else-more w ↦ turning-still _ _ _ _ _ p.word_is _ _ _ _ _ _ _ _ c.loop-left.invariant.turning c.loop-left-test.false w.if-more.false
+      | else-more w ↦ turning-still _ _ _ _ _ p.word_is _ _ _ _ _ _ _ _ c.loop-left.invariant.turning c.loop-left-test.false w.if-more.false
           w.tracks-is w.total-is w.stage-is w.word-is
     ] in
     let d : TickedHere p c.if-led-ne0.tracks c.if-led-ne0.total c.if-led-ne0.stage c.if-more.word =
     elim c.if-led-ne0.branch [
-      then-led-ne0 w ↦ played-judged _ _ _ _ _ _ _ t _ p.led_is
+      | then-led-ne0 w ↦ played-judged _ _ _ _ _ _ _ t _ p.led_is
           (w.tracks-is ∙ w.judge_bands-f.ensures.tracks) (w.total-is ∙ w.judge_bands-f.ensures.count) (w.stage-is ∙ w.judge_bands-f.ensures.bytes)
-    | else-led-ne0 w ↦ played-alone _ _ _ _ _ _ _ t _ p.led_is w.if-led-ne0.false w.tracks-is w.total-is w.stage-is
+      | else-led-ne0 w ↦ played-alone _ _ _ _ _ _ _ t _ p.led_is w.if-led-ne0.false w.tracks-is w.total-is w.stage-is
     ] in
     omega (arith, d.stage_long, total-few p d)
 
@@ -182,29 +182,29 @@ ticks-smaller c =
     let p = c.loop-left.invariant.pass in
     let t : PlayedHere p c.if-more.tracks c.if-more.total c.if-more.stage c.if-more.word =
     elim c.if-more.branch [
-      then-more w ↦ turning-more _ _ _ _ _ p.word_is _ _ _ _ _ _ _ _ c.loop-left.invariant.turning c.loop-left-test.false
+      | then-more w ↦ turning-more _ _ _ _ _ p.word_is _ _ _ _ _ _ _ _ c.loop-left.invariant.turning c.loop-left-test.false
           (w.tracks-is ∙ w.run_commands-done.ensures.tracks) (w.total-is ∙ w.run_commands-done.ensures.count) (w.stage-is ∙ w.run_commands-done.ensures.bytes)
           (w.word-is ∙ w.run_commands-done.ensures.word ∙ ap (playing_word _) (sym w.tracks-is))
-    | else-more w ↦ turning-still _ _ _ _ _ p.word_is _ _ _ _ _ _ _ _ c.loop-left.invariant.turning c.loop-left-test.false w.if-more.false
+      | else-more w ↦ turning-still _ _ _ _ _ p.word_is _ _ _ _ _ _ _ _ c.loop-left.invariant.turning c.loop-left-test.false w.if-more.false
           w.tracks-is w.total-is w.stage-is w.word-is
     ] in
     let d : TickedHere p c.if-led-ne0.tracks c.if-led-ne0.total c.if-led-ne0.stage c.if-more.word =
     elim c.if-led-ne0.branch [
-      then-led-ne0 w ↦ played-judged _ _ _ _ _ _ _ t _ p.led_is
+      | then-led-ne0 w ↦ played-judged _ _ _ _ _ _ _ t _ p.led_is
           (w.tracks-is ∙ w.judge_bands-f.ensures.tracks) (w.total-is ∙ w.judge_bands-f.ensures.count) (w.stage-is ∙ w.judge_bands-f.ensures.bytes)
-    | else-led-ne0 w ↦ played-alone _ _ _ _ _ _ _ t _ p.led_is w.if-led-ne0.false w.tracks-is w.total-is w.stage-is
+      | else-led-ne0 w ↦ played-alone _ _ _ _ _ _ _ t _ p.led_is w.if-led-ne0.false w.tracks-is w.total-is w.stage-is
     ] in
     let q : SkipsHere c.ticks.invariant c.ticks.look c.smaller-most.result c.if-look.skipped =
     elim c.if-look.branch [
-      then-look w ↦ skips-looked c.ticks.invariant c.ticks.look w.quiet-stretch.ensures (w.skipped-is ∙ w.smaller-skipped.ensures)
-    | else-look w ↦ skips-none c.ticks.invariant w.if-look.false w.skipped-is
+      | then-look w ↦ skips-looked c.ticks.invariant c.ticks.look w.quiet-stretch.ensures (w.skipped-is ∙ w.smaller-skipped.ensures)
+      | else-look w ↦ skips-none c.ticks.invariant w.if-look.false w.skipped-is
     ] in
     let short : c.if-look.skipped < c.smaller-most.result = omega (arith, q.few) in
     let s : Starts c.ticks.invariant q c.smaller-most.ensures (capacity (length c.args.log.now) - c.ticks.held) c.if-room-lt-MOST.skipped c.if-room-lt-MOST.tracks c.if-room-lt-MOST.back =
     elim c.if-room-lt-MOST.branch [
-      then-room-lt-MOST+then-skipped-gt0 w ↦ starts-leapt c.ticks.invariant q c.smaller-most.ensures w.leapt-moved-then-skipped-gt0.ensures w.tracks-is w.skipped-is w.back-is
-    | then-room-lt-MOST+else-skipped-gt0 w ↦ starts-none c.ticks.invariant q c.smaller-most.ensures (omega arith) w.tracks-is w.skipped-is w.back-is
-    | else-room-lt-MOST w ↦ starts-roomy c.ticks.invariant q c.smaller-most.ensures w.if-room-lt-MOST.false w.tracks-is w.skipped-is
+      | then-room-lt-MOST+then-skipped-gt0 w ↦ starts-leapt c.ticks.invariant q c.smaller-most.ensures w.leapt-moved-then-skipped-gt0.ensures w.tracks-is w.skipped-is w.back-is
+      | then-room-lt-MOST+else-skipped-gt0 w ↦ starts-none c.ticks.invariant q c.smaller-most.ensures (omega arith) w.tracks-is w.skipped-is w.back-is
+      | else-room-lt-MOST w ↦ starts-roomy c.ticks.invariant q c.smaller-most.ensures w.if-room-lt-MOST.false w.tracks-is w.skipped-is
     ] in
     let g = (walked p d c.if-room-total.false c.commit.ensures c.loop-left.invariant.turning.steps.reached_long).going in
     walked-less c.ticks.invariant q c.smaller-most.ensures c.ticks-test.true short s d g c.commit.ensures
@@ -214,17 +214,17 @@ ticks-preserved c =
     let p = c.loop-left.invariant.pass in
     let t : PlayedHere p c.if-more.tracks c.if-more.total c.if-more.stage c.if-more.word =
     elim c.if-more.branch [
-      then-more w ↦ turning-more _ _ _ _ _ p.word_is _ _ _ _ _ _ _ _ c.loop-left.invariant.turning c.loop-left-test.false
+      | then-more w ↦ turning-more _ _ _ _ _ p.word_is _ _ _ _ _ _ _ _ c.loop-left.invariant.turning c.loop-left-test.false
           (w.tracks-is ∙ w.run_commands-done.ensures.tracks) (w.total-is ∙ w.run_commands-done.ensures.count) (w.stage-is ∙ w.run_commands-done.ensures.bytes)
           (w.word-is ∙ w.run_commands-done.ensures.word ∙ ap (playing_word _) (sym w.tracks-is))
-    | else-more w ↦ turning-still _ _ _ _ _ p.word_is _ _ _ _ _ _ _ _ c.loop-left.invariant.turning c.loop-left-test.false w.if-more.false
+      | else-more w ↦ turning-still _ _ _ _ _ p.word_is _ _ _ _ _ _ _ _ c.loop-left.invariant.turning c.loop-left-test.false w.if-more.false
           w.tracks-is w.total-is w.stage-is w.word-is
     ] in
     let d : TickedHere p c.if-led-ne0.tracks c.if-led-ne0.total c.if-led-ne0.stage c.if-more.word =
     elim c.if-led-ne0.branch [
-      then-led-ne0 w ↦ played-judged _ _ _ _ _ _ _ t _ p.led_is
+      | then-led-ne0 w ↦ played-judged _ _ _ _ _ _ _ t _ p.led_is
           (w.tracks-is ∙ w.judge_bands-f.ensures.tracks) (w.total-is ∙ w.judge_bands-f.ensures.count) (w.stage-is ∙ w.judge_bands-f.ensures.bytes)
-    | else-led-ne0 w ↦ played-alone _ _ _ _ _ _ _ t _ p.led_is w.if-led-ne0.false w.tracks-is w.total-is w.stage-is
+      | else-led-ne0 w ↦ played-alone _ _ _ _ _ _ _ t _ p.led_is w.if-led-ne0.false w.tracks-is w.total-is w.stage-is
     ] in
     walked p d c.if-room-total.false c.commit.ensures c.loop-left.invariant.turning.steps.reached_long
 
@@ -233,17 +233,17 @@ returns-then-room-total c =
     let p = c.loop-left.invariant.pass in
     let t : PlayedHere p c.if-more.tracks c.if-more.total c.if-more.stage c.if-more.word =
     elim c.if-more.branch [
-      then-more w ↦ turning-more _ _ _ _ _ p.word_is _ _ _ _ _ _ _ _ c.loop-left.invariant.turning c.loop-left-test.false
+      | then-more w ↦ turning-more _ _ _ _ _ p.word_is _ _ _ _ _ _ _ _ c.loop-left.invariant.turning c.loop-left-test.false
           (w.tracks-is ∙ w.run_commands-done.ensures.tracks) (w.total-is ∙ w.run_commands-done.ensures.count) (w.stage-is ∙ w.run_commands-done.ensures.bytes)
           (w.word-is ∙ w.run_commands-done.ensures.word ∙ ap (playing_word _) (sym w.tracks-is))
-    | else-more w ↦ turning-still _ _ _ _ _ p.word_is _ _ _ _ _ _ _ _ c.loop-left.invariant.turning c.loop-left-test.false w.if-more.false
+      | else-more w ↦ turning-still _ _ _ _ _ p.word_is _ _ _ _ _ _ _ _ c.loop-left.invariant.turning c.loop-left-test.false w.if-more.false
           w.tracks-is w.total-is w.stage-is w.word-is
     ] in
     let d : TickedHere p c.if-led-ne0.tracks c.if-led-ne0.total c.if-led-ne0.stage c.if-more.word =
     elim c.if-led-ne0.branch [
-      then-led-ne0 w ↦ played-judged _ _ _ _ _ _ _ t _ p.led_is
+      | then-led-ne0 w ↦ played-judged _ _ _ _ _ _ _ t _ p.led_is
           (w.tracks-is ∙ w.judge_bands-f.ensures.tracks) (w.total-is ∙ w.judge_bands-f.ensures.count) (w.stage-is ∙ w.judge_bands-f.ensures.bytes)
-    | else-led-ne0 w ↦ played-alone _ _ _ _ _ _ _ t _ p.led_is w.if-led-ne0.false w.tracks-is w.total-is w.stage-is
+      | else-led-ne0 w ↦ played-alone _ _ _ _ _ _ _ t _ p.led_is w.if-led-ne0.false w.tracks-is w.total-is w.stage-is
     ] in
     full-late p d c.if-room-total.true
 

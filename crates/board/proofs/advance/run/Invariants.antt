@@ -23,7 +23,7 @@ invariant-loop-left l =
     let b = board_of l.fn.given l.present l.keys l.infos l.n l.fn.from.0 l.kept in
     record {
       pass : Pass b l.wanted l.fn.log l.log l.initial.tracks l.back l.clock l.held l.taken l.word l.led l.skipped l.room;
-      turning : Turning b l.initial.tracks l.clock l.word l.skipped l.stage l.reached l.tracks l.rest l.left l.staged l.m l.more
+      turning : Turning b l.initial.tracks l.clock l.word l.skipped l.stage l.reached l.tracks l.rest l.left l.staged l.m l.more;
     }
 
 abbrev pub decreases-loop-left : goal.decreases-loop-left

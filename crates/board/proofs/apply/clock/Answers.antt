@@ -1,6 +1,5 @@
 use Rattle.board.proofs.apply.Applying.{said}
 use Rattle.board.specs.Call.{clock_said}
-use borrow.Author.Rules.{rules}
 use Rattle.board.proofs.apply.clock.Goals as goal
 
 pub returns-in-Clock : goal.returns-in-Clock

@@ -1,6 +1,5 @@
 use Rattle.board.proofs.apply.Applying.{said}
 use Rattle.board.specs.Call.{count_said}
-use borrow.Author.Rules.{rules}
 use Rattle.board.proofs.apply.count.Goals as goal
 
 pub returns-in-Count : goal.returns-in-Count

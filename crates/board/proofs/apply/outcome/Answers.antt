@@ -1,6 +1,5 @@
 use Rattle.board.proofs.apply.Applying.{said}
 use Rattle.board.specs.Call.{answered}
-use borrow.Author.Rules.{rules}
 use Rattle.board.proofs.apply.outcome.Goals as goal
 
 pub returns-in-Accepted : goal.returns-in-Accepted

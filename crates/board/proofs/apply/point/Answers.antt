@@ -1,6 +1,5 @@
 use Rattle.board.proofs.apply.Applying.{said}
 use Rattle.board.specs.Call.{point_said}
-use borrow.Author.Rules.{rules}
 use Rattle.board.proofs.apply.point.Goals as goal
 
 pub returns-in-Found : goal.returns-in-Found

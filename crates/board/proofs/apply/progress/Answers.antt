@@ -1,6 +1,5 @@
 use Rattle.board.proofs.apply.Applying.{said}
 use Rattle.board.specs.Call.{advanced_said}
-use borrow.Author.Rules.{rules}
 use Rattle.board.proofs.apply.progress.Goals as goal
 
 pub returns-in-Done : goal.returns-in-Done

@@ -2,7 +2,6 @@ use Rattle.board.proofs.apply.Applying.{said}
 use Rattle.board.specs.Call.{track_said}
 use mathlib.Core.Path.{refl}
 use Rattle.track.specs.declared.setup.Answer.{Answer}
-use borrow.Author.Rules.{rules}
 use Rattle.board.proofs.apply.track.Goals as goal
 
 pub returns-in-Accepted : goal.returns-in-Accepted

@@ -1,6 +1,5 @@
 use Prim.Native.Nat.{◌%◌}
 use Rattle.board.proofs.follow.Following.{follow-bit-no, follow-bit-yes}
-use borrow.Author.Rules.{rules}
 use Rattle.board.proofs.follow.follow_bit.Goals as goal
 
 pub returns-then-t-eq0 : goal.returns-then-t-eq0

@@ -1,11 +1,10 @@
-use Prim.Native.Nat.{◌<◌}
 use Rattle.board.proofs.rules.Passing.{length-mapped}
 use Rattle.board.proofs.tick.Bits.{Lowest, lowest, no-members}
-use Rattle.board.proofs.follow.Judging.{Judging, judging-start, judging-end, judging-rule, judging-room, judging-turn}
+use Rattle.board.proofs.follow.Judging.{judging-start, judging-end, judging-rule, judging-room, judging-turn}
 use Rattle.board.specs.Board.{track_at}
-use Rattle.board.specs.Tick.{members, FollowRule}
+use Rattle.board.specs.Tick.{FollowRule}
 use borrow.Author.Rules.{rules}
-use lib.Count.{ones, count_trailing_zeros}
+use lib.Count.{count_trailing_zeros}
 use native.Mathlib.Omega.{arith}
 use Rattle.board.proofs.follow.judge_bands.Goals as goal
 
@@ -58,7 +57,7 @@ rule-After-judge_band-arg-1 : (c : goal.After-judge_band-arg-1) →
 rule-After-judge_band-arg-1 c = judging-rule _ _ _ _ _ c.loop-left.next c.loop-left.stage c.loop-left.count c.loop-left.invariant.1 _ _ (low-After-judge_band-arg-1 c).rest
 
 pub judge_band-r-requires : goal.judge_band-r-requires
-judge_band-r-requires c = record { follow_rule = rule-After-judge_band-arg-1 c; record_width_in_bounds = judging-room _ _ _ _ _ c.loop-left.next c.loop-left.stage c.loop-left.count c.loop-left.invariant.1 _ _ (low-After-judge_band-arg-1 c).rest; }
+judge_band-r-requires c = record { follow_rule = rule-After-judge_band-arg-1 c; record_width_in_bounds = judging-room _ _ _ _ _ c.loop-left.next c.loop-left.stage c.loop-left.count c.loop-left.invariant.1 _ _ (low-After-judge_band-arg-1 c).rest }
 
 low-After-slice_known-in-loop-left-1 : (c : goal.After-slice_known-in-loop-left-1) → Lowest c.loop-left.left
 low-After-slice_known-in-loop-left-1 c = lowest c.loop-left.left c.loop-left.invariant.0 c.loop-left-test.true
@@ -85,9 +84,11 @@ pub loop-left-smaller : goal.loop-left-smaller
 loop-left-smaller c = let l = low-After-next-1 c in omega arith
 
 pub loop-left-preserved : goal.loop-left-preserved
-loop-left-preserved c = let w = low-After-next-1 c in
-    (w.fits, judging-turn _ _ _ _ _ c.loop-left.next c.loop-left.stage c.loop-left.count c.loop-left.invariant.1 _ _ w.rest _ _
-        (c.judge_band-r.ensures.judged, c.judge_band-r.ensures.bytes))
+loop-left-preserved c = let w = low-After-next-1 c in (
+  w.fits,
+  judging-turn _ _ _ _ _ c.loop-left.next c.loop-left.stage c.loop-left.count c.loop-left.invariant.1 _ _ w.rest _ _
+      (c.judge_band-r.ensures.judged, c.judge_band-r.ensures.bytes),
+)
 
 pub shape_of-stage : goal.shape_of-stage
 shape_of-stage c = c.loop-left.invariant.1.stage
@@ -95,4 +96,4 @@ shape_of-stage c = c.loop-left.invariant.1.stage
 pub returns : goal.returns
 returns c =
     let d = judging-end _ _ _ _ _ c.loop-left.next c.loop-left.stage c.loop-left.count c.loop-left.invariant.1 (no-members _ c.loop-left-test.false) in
-    record { tracks = d.0; count = d.1.0; bytes = d.1.1; }
+    record { tracks = d.0; count = d.1.0; bytes = d.1.1 }

@@ -1,12 +1,7 @@
 use Prim.Native.Nat.{◌<◌}
-use Rattle.board.proofs.rules.Passing.{length-mapped}
-use Rattle.board.proofs.tick.Bits.{Lowest, lowest, no-members}
-use Rattle.board.proofs.follow.Judging.{Judging, judging-start, judging-end, judging-rule, judging-room, judging-turn}
-use Rattle.board.specs.Board.{track_at}
-use Rattle.board.specs.Tick.{members, FollowRule}
-use borrow.Author.Rules.{rules}
-use lib.Count.{ones, count_trailing_zeros}
-use native.Mathlib.Omega.{arith}
+use Rattle.board.proofs.follow.Judging.{Judging}
+use Rattle.board.specs.Tick.{members}
+use lib.Count.{ones}
 use Rattle.board.proofs.follow.judge_bands.Given as goal
 
 abbrev pub invariant-loop-left : goal.invariant-loop-left

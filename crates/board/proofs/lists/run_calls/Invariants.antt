@@ -1,9 +1,5 @@
-use Prim.Native.Nat.{◌≤◌, ◌-◌, ◌*◌}
-use Rattle.board.proofs.lists.Executing.{RowsDone, rows_start, rows_step, rows_end}
-use Rattle.board.specs.Row.{call_width, reply_width}
-use borrow.Author.Rules.{rules}
-use lib.ListN.{length}
-use native.Mathlib.Omega.{arith}
+use Prim.Native.Nat.{◌≤◌, ◌-◌}
+use Rattle.board.proofs.lists.Executing.{RowsDone}
 use Rattle.board.proofs.lists.run_calls.Given as goal
 
 abbrev pub invariant-loop-i : goal.invariant-loop-i

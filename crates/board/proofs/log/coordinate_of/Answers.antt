@@ -1,5 +1,4 @@
 use Rattle.board.proofs.log.Records.{coordinate-low, coordinate-high}
-use borrow.Author.Rules.{rules}
 use native.Mathlib.Omega.{arith}
 use Rattle.board.proofs.log.coordinate_of.Goals as goal
 

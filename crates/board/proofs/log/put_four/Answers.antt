@@ -1,5 +1,4 @@
 use Rattle.board.proofs.log.Words.{four-stores}
-use borrow.Author.Rules.{rules}
 use lib.ListN.{length-set}
 use native.Mathlib.Omega.{arith}
 use Rattle.board.proofs.log.put_four.Goals as goal

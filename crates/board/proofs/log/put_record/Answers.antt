@@ -1,5 +1,4 @@
 use Rattle.board.proofs.log.Records.{four-writes}
-use borrow.Author.Rules.{rules}
 use native.Mathlib.Omega.{arith}
 use Rattle.board.proofs.log.put_record.Goals as goal
 

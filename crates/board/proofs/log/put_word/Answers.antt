@@ -1,5 +1,4 @@
 use Rattle.board.specs.Log.{le}
-use borrow.Author.Rules.{rules}
 use Rattle.board.proofs.log.put_word.Goals as goal
 
 pub returns : goal.returns

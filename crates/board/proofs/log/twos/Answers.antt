@@ -1,5 +1,4 @@
 use Rattle.board.proofs.log.Records.{twos-low, twos-high}
-use borrow.Author.Rules.{rules}
 use native.Mathlib.Omega.{arith}
 use Rattle.board.proofs.log.twos.Goals as goal
 

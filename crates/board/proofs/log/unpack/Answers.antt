@@ -1,6 +1,4 @@
 use Rattle.board.proofs.log.Records.{unpack-refuses-length, unpack-refuses-kind, unpack-held}
-use borrow.Author.Rules.{rules}
-use borrow.Author.Tests.{not-true, not-false}
 use mathlib.Core.Path.{◌∙◌, sym}
 use Rattle.board.proofs.log.unpack.Goals as goal
 

@@ -1,5 +1,4 @@
 use Rattle.board.proofs.log.Words.{four-reads}
-use borrow.Author.Rules.{rules}
 use native.Mathlib.Omega.{arith}
 use Rattle.board.proofs.log.word.Goals as goal
 

@@ -1,6 +1,5 @@
 use Rattle.board.proofs.master.Pairs.{in-most}
 use Rattle.track.specs.Rule.{event_most}
-use borrow.Author.Rules.{rules}
 use lib.IntN.{pos}
 use lib.ListN.{get_or}
 use native.Mathlib.Omega.{arith}

@@ -1,5 +1,4 @@
 use Rattle.board.proofs.master.Pairs.{master-free, master-given}
-use borrow.Author.Rules.{rules}
 use Rattle.board.proofs.master.master_named.Goals as goal
 
 pub returns-then-pairs-eq0 : goal.returns-then-pairs-eq0

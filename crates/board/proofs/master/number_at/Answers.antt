@@ -3,7 +3,6 @@ use Rattle.board.proofs.master.Pairs.{number_past}
 use Rattle.track.proofs.Numbers.{told, natural-out, natural-take}
 use Rattle.track.specs.Number.{natural_of}
 use Rattle.track.specs.declared.number.Natural.{Natural}
-use borrow.Author.Rules.{rules}
 use lib.IntN.{ℤ}
 use mathlib.Core.Path.{refl}
 use Rattle.board.proofs.master.number_at.Goals as goal

@@ -2,7 +2,6 @@ use Rattle.board.proofs.master.Pairs.{put-playing, put_self, put-range, put-many
 use Rattle.board.proofs.rules.Passing.{length-mapped}
 use Rattle.board.specs.Points.{track_count}
 use borrow.Author.Rules.{rules}
-use borrow.Author.Tests.{not-true, not-false}
 use lib.ListN.{length}
 use mathlib.Core.Path.{◌≡◌}
 use native.Mathlib.Omega.{arith}

@@ -1,9 +1,5 @@
-use Prim.Native.Nat.{◌-◌}
 use Rattle.board.proofs.master.Pairs.{ranged-low, ranged-event, ranged-next, ranged-end}
-use Rattle.board.specs.Setup.{ranged_test}
-use borrow.Author.Rules.{rules}
-use lib.ListN.{length, drop}
-use mathlib.Core.Path.{◌≡◌, refl, sym, ◌∙◌}
+use mathlib.Core.Path.{refl, sym, ◌∙◌}
 use Rattle.board.proofs.master.ranged.Goals as goal
 
 pub loop-i-init : goal.loop-i-init

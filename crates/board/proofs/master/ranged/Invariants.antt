@@ -1,9 +1,7 @@
 use Prim.Native.Nat.{◌-◌}
-use Rattle.board.proofs.master.Pairs.{ranged-low, ranged-event, ranged-next, ranged-end}
 use Rattle.board.specs.Setup.{ranged_test}
-use borrow.Author.Rules.{rules}
 use lib.ListN.{length, drop}
-use mathlib.Core.Path.{◌≡◌, refl, sym, ◌∙◌}
+use mathlib.Core.Path.{◌≡◌}
 use Rattle.board.proofs.master.ranged.Given as goal
 
 abbrev pub invariant-loop-i : goal.invariant-loop-i

@@ -15,7 +15,7 @@ use Rattle.track.specs.Rule.{Valid}
 use Rattle.track.specs.declared.grid.Decision.TheVariants.{Goes}
 use Rattle.track.specs.declared.number.Natural.TheVariants.{In}
 use borrow.Author.Rules.{rules}
-use borrow.Author.Tests.{not-true, not-false, lt-leb, le-leb}
+use borrow.Author.Tests.{lt-leb, le-leb}
 use lib.ListN.{length}
 use mathlib.Core.Bool.{true}
 use mathlib.Core.Path.{◌≡◌, ◌∙◌, sym, ap, refl, subst}
@@ -33,9 +33,9 @@ board-After-declined c = board_of c.args.tracks c.args.present c.args.keys.now c
 pub returns-then-not-unbroken : goal.returns-then-not-unbroken
 unfolding mode_result
 returns-then-not-unbroken c = let b = board-After-declined c in (
-      result-gives b _ _ _ (follows-declined 3 b _ (cond_no _ _ (sym c.unbroken.ensures ∙ c.if-not-unbroken.true) refl) (unmoved 3 b c.declined.ensures)),
-      omega (arith, ap (λ (r : ModeChange). r.at) c.declined.ensures),
-    )
+  result-gives b _ _ _ (follows-declined 3 b _ (cond_no _ _ (sym c.unbroken.ensures ∙ c.if-not-unbroken.true) refl) (unmoved 3 b c.declined.ensures)),
+  omega (arith, ap (λ (r : ModeChange). r.at) c.declined.ensures),
+)
 
 -- the board of the parts
 abbrev board-After-declined-then-capacity-held : goal.After-declined-then-capacity-held → Board
@@ -48,9 +48,9 @@ whole-After-declined-then-capacity-held c = sym c.unbroken.ensures ∙ c.if-not-
 pub returns-then-capacity-held : goal.returns-then-capacity-held
 unfolding mode_result
 returns-then-capacity-held c = let b = board-After-declined-then-capacity-held c in (
-      result-gives b _ _ _ (follows-declined 7 b _ (cond_yes _ _ (whole-After-declined-then-capacity-held c) (cond_no _ _ (lt-leb _ _ c.if-capacity-held.true) refl)) (unmoved 7 b c.declined-then-capacity-held.ensures)),
-      omega (arith, ap (λ (r : ModeChange). r.at) c.declined-then-capacity-held.ensures),
-    )
+  result-gives b _ _ _ (follows-declined 7 b _ (cond_yes _ _ (whole-After-declined-then-capacity-held c) (cond_no _ _ (lt-leb _ _ c.if-capacity-held.true) refl)) (unmoved 7 b c.declined-then-capacity-held.ensures)),
+  omega (arith, ap (λ (r : ModeChange). r.at) c.declined-then-capacity-held.ensures),
+)
 
 -- the board of the parts
 abbrev board-After-declined-in_default : goal.After-declined-in_default → Board
@@ -63,12 +63,12 @@ whole-After-declined-in_default c = sym c.unbroken.ensures ∙ c.if-not-unbroken
 pub returns-in_default : goal.returns-in_default
 unfolding mode_result
 returns-in_default c = let b = board-After-declined-in_default c in (
-      result-gives b _ _ _ (follows-declined 1 b _
-          (cond_yes _ _ (whole-After-declined-in_default c) (cond_yes _ _ (le-leb _ _ c.if-capacity-held.false)
-          (natural-out _ _ _ (told (found_in c.args.present) c.ranges.track c.found.ensures c.in_default.is) refl)))
-          (unmoved 1 b c.declined-in_default.ensures)),
-      omega (arith, ap (λ (r : ModeChange). r.at) c.declined-in_default.ensures),
-    )
+  result-gives b _ _ _ (follows-declined 1 b _
+      (cond_yes _ _ (whole-After-declined-in_default c) (cond_yes _ _ (le-leb _ _ c.if-capacity-held.false)
+      (natural-out _ _ _ (told (found_in c.args.present) c.ranges.track c.found.ensures c.in_default.is) refl)))
+      (unmoved 1 b c.declined-in_default.ensures)),
+  omega (arith, ap (λ (r : ModeChange). r.at) c.declined-in_default.ensures),
+)
 
 -- the track that is found
 number-In-In : (c : goal.In-In) → found_in c.args.present c.args.track ≡ In c.in-In.i
@@ -109,12 +109,12 @@ whole-After-declined-in_default-grid c = sym c.unbroken.ensures ∙ c.if-not-unb
 pub returns-in_default-grid : goal.returns-in_default-grid
 unfolding mode_result decided
 returns-in_default-grid c = let b = board-After-declined-in_default-grid c in (
-      result-gives b _ _ _ (follows-declined 2 b _
-          (cond_yes _ _ (whole-After-declined-in_default-grid c) (cond_yes _ _ (le-leb _ _ c.if-capacity-held.false)
-          (natural-take _ _ _ (number-After-declined-in_default-grid c) (ap (decided _ _ _) (sym (sym c.grid.ensures ∙ c.in_default-grid.is))))))
-          (unmoved 2 b c.declined-in_default-grid.ensures)),
-      omega (arith, ap (λ (r : ModeChange). r.at) c.declined-in_default-grid.ensures),
-    )
+  result-gives b _ _ _ (follows-declined 2 b _
+      (cond_yes _ _ (whole-After-declined-in_default-grid c) (cond_yes _ _ (le-leb _ _ c.if-capacity-held.false)
+      (natural-take _ _ _ (number-After-declined-in_default-grid c) (ap (decided _ _ _) (sym (sym c.grid.ensures ∙ c.in_default-grid.is))))))
+      (unmoved 2 b c.declined-in_default-grid.ensures)),
+  omega (arith, ap (λ (r : ModeChange). r.at) c.declined-in_default-grid.ensures),
+)
 
 -- the mode that the grid gives
 goes-After-entered-after : (c : goal.After-entered-after) → grid_of (track_at c.args.tracks c.in-In.i).mode c.args.call ≡ Goes c.in-Goes.new
@@ -206,11 +206,10 @@ chosen-After-declined-then-capacity-held-2 c = cond_yes _ _ (whole-After-decline
     (natural-take _ _ _ (number-After-declined-then-capacity-held-2 c) (ap (decided _ _ _) (sym (goes-After-declined-then-capacity-held-2 c)))))
 
 pub returns-then-capacity-held-2 : goal.returns-then-capacity-held-2
-returns-then-capacity-held-2 c = let b = board-After-declined-then-capacity-held-2 c in
-    (
-      result-gives b _ _ _ (follows-full b _ _ _ (chosen-After-declined-then-capacity-held-2 c) (λ z. c.if-action-eq0.false (c.action.ensures ∙ z)) c.if-capacity-held-2.true (unmoved 8 b c.declined-then-capacity-held-2.ensures)),
-      omega (arith, ap (λ (r : ModeChange). r.at) c.declined-then-capacity-held-2.ensures),
-    )
+returns-then-capacity-held-2 c = let b = board-After-declined-then-capacity-held-2 c in (
+  result-gives b _ _ _ (follows-full b _ _ _ (chosen-After-declined-then-capacity-held-2 c) (λ z. c.if-action-eq0.false (c.action.ensures ∙ z)) c.if-capacity-held-2.true (unmoved 8 b c.declined-then-capacity-held-2.ensures)),
+  omega (arith, ap (λ (r : ModeChange). r.at) c.declined-then-capacity-held-2.ensures),
+)
 
 -- the track that is found
 number-After-stage_change-arg-1 : (c : goal.After-stage_change-arg-1) → found_in c.args.present c.args.track ≡ In c.in-In.i
@@ -244,7 +243,7 @@ valid-After-stage_change-arg-1 : (c : goal.After-stage_change-arg-1) → Valid (
 valid-After-stage_change-arg-1 c = ((kept-After-stage_change-arg-1 c).tracks _ (found_in_lem _ _ (number-After-stage_change-arg-1 c))).valid
 
 pub stage_change-count-requires : goal.stage_change-count-requires
-stage_change-count-requires c = record { record_width_in_bounds = omega (arith, c.if-capacity-held-2.false); valid = valid-After-stage_change-arg-1 c; bound = low-After-stage_change-arg-1 c; }
+stage_change-count-requires c = record { record_width_in_bounds = omega (arith, c.if-capacity-held-2.false); valid = valid-After-stage_change-arg-1 c; bound = low-After-stage_change-arg-1 c }
 
 -- the board of the parts
 abbrev board-After-slice_known-2-1 : goal.After-slice_known-2-1 → Board
@@ -276,8 +275,7 @@ chosen-After-slice_known-2-1 c = cond_yes _ _ (whole-After-slice_known-2-1 c)
 
 pub returns : goal.returns
 returns c = let b = board-After-slice_known-2-1 c in
-    let l = small-After-slice_known-2-1 c in
-    (
+    let l = small-After-slice_known-2-1 c in (
       result-gives b _ _ _ (follows-noted b _ _ _ (chosen-After-slice_known-2-1 c) (λ z. c.if-action-eq0.false (c.action.ensures ∙ z)) c.if-capacity-held-2.false
           (changed-with b _ _ c.entered-after.ensures) c.stage_change-count.ensures.count c.stage_change-count.ensures.bytes),
       omega arith,

@@ -1,5 +1,4 @@
 use Rattle.board.proofs.mode.Results.{pause-gives}
-use borrow.Author.Rules.{rules}
 use mir.Facts.{to_z-of_z}
 use Rattle.board.proofs.mode.pause.Goals as goal
 

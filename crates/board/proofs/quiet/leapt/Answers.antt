@@ -1,14 +1,9 @@
-use Prim.Native.Nat.{◌<◌}
 use Rattle.board.proofs.tick.Bits.{Lowest, lowest, no-members}
 use Rattle.board.proofs.quiet.Turns.{leapable-next, leap-next, leap-end}
-use Rattle.board.specs.Quiet.{Leapable, leap_into}
-use Rattle.board.specs.Tick.{members}
 use borrow.Author.Rules.{rules}
-use lib.Count.{ones}
-use lib.ListN.{length, length-set}
-use mathlib.Core.Path.{◌≡◌, refl, ◌∙◌}
+use lib.ListN.{length-set}
+use mathlib.Core.Path.{refl, ◌∙◌}
 use native.Mathlib.Omega.{arith}
-use Rattle.board.specs.Points.{track_count}
 use Rattle.board.proofs.quiet.leapt.Goals as goal
 
 low : (c : goal.In-loop-left) → Lowest c.loop-left.left
@@ -29,7 +24,7 @@ bounds-tracks-i c = let l = low c in omega arith
 pub leap-requires : goal.leap-requires
 leap-requires c = let l = low c.before in
     let f = (leapable-next c.args.tracks _ _ _ l.rest c.loop-left.invariant.1).0 in
-    record { valid = f.valid; passes_le_clock_end = f.passes; n_le_clock_end = c.requires.k_le_clock_end; }
+    record { valid = f.valid; passes_le_clock_end = f.passes; n_le_clock_end = c.requires.k_le_clock_end }
 
 pub offset_bounds-next-i : goal.offset_bounds-next-i
 offset_bounds-next-i c = let l = low c.before.before in omega arith
@@ -50,13 +45,12 @@ pub loop-left-smaller : goal.loop-left-smaller
 loop-left-smaller c = let l = low c.before.before in omega arith
 
 pub loop-left-preserved : goal.loop-left-preserved
-loop-left-preserved c = let l = low c.before.before in
-    (
-      l.fits,
-      (leapable-next c.args.tracks _ _ _ l.rest c.loop-left.invariant.1).1,
-      leap-next _ _ _ _ l.rest _ c.loop-left.next c.leap.ensures ∙ c.loop-left.invariant.2,
-      length-set c.loop-left.next _ c.leap.result ∙ c.loop-left.invariant.3,
-    )
+loop-left-preserved c = let l = low c.before.before in (
+  l.fits,
+  (leapable-next c.args.tracks _ _ _ l.rest c.loop-left.invariant.1).1,
+  leap-next _ _ _ _ l.rest _ c.loop-left.next c.leap.ensures ∙ c.loop-left.invariant.2,
+  length-set c.loop-left.next _ c.leap.result ∙ c.loop-left.invariant.3,
+)
 
 pub returns : goal.returns
 returns c = leap-end _ _ _ c.loop-left.next (no-members _ c.loop-left-test.false) ∙ c.loop-left.invariant.2

@@ -1,13 +1,9 @@
 use Prim.Native.Nat.{◌<◌}
-use Rattle.board.proofs.tick.Bits.{Lowest, lowest, no-members}
-use Rattle.board.proofs.quiet.Turns.{leapable-next, leap-next, leap-end}
 use Rattle.board.specs.Quiet.{Leapable, leap_into}
 use Rattle.board.specs.Tick.{members}
-use borrow.Author.Rules.{rules}
 use lib.Count.{ones}
-use lib.ListN.{length, length-set}
-use mathlib.Core.Path.{◌≡◌, refl, ◌∙◌}
-use native.Mathlib.Omega.{arith}
+use lib.ListN.{length}
+use mathlib.Core.Path.{◌≡◌}
 use Rattle.board.specs.Points.{track_count}
 use Rattle.board.proofs.quiet.leapt.Given as goal
 

@@ -53,13 +53,12 @@ pub loop-left-smaller : goal.loop-left-smaller
 loop-left-smaller c = let l = low-After-smaller-fewest c in omega arith
 
 pub loop-left-preserved : goal.loop-left-preserved
-loop-left-preserved c = let l = low-After-smaller-fewest c in
-    (
-      l.fits,
-      (leapable-next c.args.tracks _ _ _ l.rest c.loop-left.invariant.1).1,
-      omega arith,
-      λ r h. c.loop-left.invariant.3 r (fewest-next _ _ _ _ l.rest _ [] _ _ r c.loop-left.invariant.2 c.quiet_ticks-ticks.ensures c.smaller-fewest.ensures h),
-    )
+loop-left-preserved c = let l = low-After-smaller-fewest c in (
+  l.fits,
+  (leapable-next c.args.tracks _ _ _ l.rest c.loop-left.invariant.1).1,
+  omega arith,
+  λ r h. c.loop-left.invariant.3 r (fewest-next _ _ _ _ l.rest _ [] _ _ r c.loop-left.invariant.2 c.quiet_ticks-ticks.ensures c.smaller-fewest.ensures h),
+)
 
 pub returns : goal.returns
 returns c = c.loop-left.invariant.3 _ (fewest-end _ _ _ [] _ (no-members _ c.loop-left-test.false) refl)

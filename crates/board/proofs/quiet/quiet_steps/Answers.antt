@@ -1,5 +1,4 @@
 use Rattle.board.proofs.quiet.Reaching.{sooner}
-use borrow.Author.Rules.{rules}
 use Rattle.board.proofs.quiet.quiet_steps.Goals as goal
 
 pub returns : goal.returns

@@ -1,9 +1,8 @@
 use Rattle.board.proofs.quiet.Reaching.{ticked}
-use borrow.Author.Rules.{rules}
 use Rattle.board.proofs.quiet.quiet_ticks.Goals as goal
 
 pub ticks_before-requires : goal.ticks_before-requires
-ticks_before-requires c = record { valid = c.requires.valid; steps_le_clock_end = c.quiet_steps.ensures.small; }
+ticks_before-requires c = record { valid = c.requires.valid; steps_le_clock_end = c.quiet_steps.ensures.small }
 
 pub returns : goal.returns
 returns c = ticked _ _ c.args.t c.requires.valid _ c.quiet_steps.ensures c.ticks_before.ensures

@@ -1,12 +1,8 @@
-use Prim.Native.Nat.{ℕ, ◌≤◌, ◌<◌}
 use Rattle.board.proofs.tick.Bits.{Lowest, lowest, no-members}
 use Rattle.board.proofs.quiet.Turns.{pairs_next, steady-next, fewest-end}
-use Rattle.board.specs.Replay.{Each}
-use Rattle.board.specs.Quiet.{Fewest, WithMaster}
-use Rattle.board.specs.Tick.{members}
-use Rattle.track.specs.Rule.{clock_end}
+use Rattle.board.specs.Quiet.{WithMaster}
 use borrow.Author.Rules.{rules}
-use lib.Count.{ones, count_trailing_zeros}
+use lib.Count.{count_trailing_zeros}
 use mathlib.Core.List.{[]}
 use mathlib.Core.Path.{refl}
 use native.Mathlib.Omega.{arith}
@@ -40,7 +36,7 @@ pub bounds-tracks-j : goal.bounds-tracks-j
 bounds-tracks-j c = (pair c.before.before).master
 
 pub steady-ticks-requires : goal.steady-ticks-requires
-steady-ticks-requires c = let p = pair c.before.before.before in record { valid = p.valid; valid_2 = p.valid_master; events_value = p.pairs; band_in_bounds = p.band; }
+steady-ticks-requires c = let p = pair c.before.before.before in record { valid = p.valid; valid_2 = p.valid_master; events_value = p.pairs; band_in_bounds = p.band }
 
 pub overflow_cast-left : goal.overflow_cast-left
 overflow_cast-left c = let l = low c.before.before.before.before.before in omega arith
@@ -55,13 +51,12 @@ pub loop-left-smaller : goal.loop-left-smaller
 loop-left-smaller c = let l = low c.before.before.before.before.before in omega arith
 
 pub loop-left-preserved : goal.loop-left-preserved
-loop-left-preserved c = let l = low c.before.before.before.before.before in
-    (
-      l.fits,
-      (pairs_next c.args.tracks _ _ _ l.rest c.loop-left.invariant.1).1,
-      omega arith,
-      λ r h. c.loop-left.invariant.3 r (steady-next _ _ _ _ l.rest _ _ _ _ r c.loop-left.invariant.2 c.steady-ticks.ensures c.smaller-fewest.ensures h),
-    )
+loop-left-preserved c = let l = low c.before.before.before.before.before in (
+  l.fits,
+  (pairs_next c.args.tracks _ _ _ l.rest c.loop-left.invariant.1).1,
+  omega arith,
+  λ r h. c.loop-left.invariant.3 r (steady-next _ _ _ _ l.rest _ _ _ _ r c.loop-left.invariant.2 c.steady-ticks.ensures c.smaller-fewest.ensures h),
+)
 
 pub returns : goal.returns
 returns c = c.loop-left.invariant.3 _ (fewest-end _ _ [] _ _ refl (no-members _ c.loop-left-test.false))

@@ -1,15 +1,10 @@
 use Prim.Native.Nat.{ℕ, ◌≤◌, ◌<◌}
-use Rattle.board.proofs.tick.Bits.{Lowest, lowest, no-members}
-use Rattle.board.proofs.quiet.Turns.{pairs_next, steady-next, fewest-end}
 use Rattle.board.specs.Replay.{Each}
 use Rattle.board.specs.Quiet.{Fewest, WithMaster}
 use Rattle.board.specs.Tick.{members}
 use Rattle.track.specs.Rule.{clock_end}
-use borrow.Author.Rules.{rules}
-use lib.Count.{ones, count_trailing_zeros}
+use lib.Count.{ones}
 use mathlib.Core.List.{[]}
-use mathlib.Core.Path.{refl}
-use native.Mathlib.Omega.{arith}
 use Rattle.board.proofs.quiet.steady_followers.Given as goal
 
 abbrev pub invariant-loop-left : goal.invariant-loop-left

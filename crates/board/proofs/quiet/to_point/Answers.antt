@@ -8,7 +8,7 @@ use Rattle.board.proofs.quiet.to_point.Goals as goal
 
 pub look_up-here-requires : goal.look_up-here-requires
 look_up-here-requires c = let l = arrival-inside c.args.t c.requires.valid in
-    record { n_in_bounds = c.requires.n_in_bounds; keys_value = c.requires.keys_value; track_lt_track_count = (c.requires.track_lt_track_count, omega arith, omega arith, omega arith); }
+    record { n_in_bounds = c.requires.n_in_bounds; keys_value = c.requires.keys_value; track_lt_track_count = (c.requires.track_lt_track_count, omega arith, omega arith, omega arith) }
 
 sought-Then-here-ne0 : (c : goal.Then-here-ne0) → Sought (take c.args.n c.args.keys.now) (take c.args.n c.args.infos.now) c.args.t
 sought-Then-here-ne0 c = record { valid = c.requires.valid; ascending = c.requires.keys_value; telling = c.requires.nonzero_infos }
@@ -32,7 +32,7 @@ looked-In-At : (c : goal.In-At) → Told-In-At c c.arrival-l.result.0 c.look_up-
 looked-In-At c = record { info = c.look_up-here.ensures.info; near = c.look_up-here.ensures.near }
 
 pub steps_to-requires : goal.steps_to-requires
-steps_to-requires c = record { valid = c.requires.valid; start_le_l = near-inside (sought-In-At c) (looked-In-At c) c.arrival-l.ensures c.if-here-ne0.false _ c.in-At.is; }
+steps_to-requires c = record { valid = c.requires.valid; start_le_l = near-inside (sought-In-At c) (looked-In-At c) c.arrival-l.ensures c.if-here-ne0.false _ c.in-At.is }
 
 sought-After-steps_to : (c : goal.After-steps_to) → Sought (take c.args.n c.args.keys.now) (take c.args.n c.args.infos.now) c.args.t
 sought-After-steps_to c = record { valid = c.requires.valid; ascending = c.requires.keys_value; telling = c.requires.nonzero_infos }
@@ -48,11 +48,11 @@ returns-in-At c = found-near (sought-After-steps_to c) (looked-After-steps_to c)
 
 pub look_up-again-requires : goal.look_up-again-requires
 look_up-again-requires c = let l = home-inside c.args.t c.requires.valid in
-    record { n_in_bounds = c.requires.n_in_bounds; keys_value = c.requires.keys_value; track_lt_track_count = (c.requires.track_lt_track_count, omega arith, omega arith, omega arith); }
+    record { n_in_bounds = c.requires.n_in_bounds; keys_value = c.requires.keys_value; track_lt_track_count = (c.requires.track_lt_track_count, omega arith, omega arith, omega arith) }
 
 pub steps_to-requires-then-again-ne0 : goal.steps_to-requires-then-again-ne0
 steps_to-requires-then-again-ne0 c = let l = home-inside c.args.t c.requires.valid in
-    record { valid = c.requires.valid; start_le_l = (omega arith, omega arith); }
+    record { valid = c.requires.valid; start_le_l = (omega arith, omega arith) }
 
 sought-After-steps_to-then-again-ne0 : (c : goal.After-steps_to-then-again-ne0) → Sought (take c.args.n c.args.keys.now) (take c.args.n c.args.infos.now) c.args.t
 sought-After-steps_to-then-again-ne0 c = record { valid = c.requires.valid; ascending = c.requires.keys_value; telling = c.requires.nonzero_infos }
@@ -82,7 +82,7 @@ again-In-At-next : (c : goal.In-At-next) → Told-In-At-next c c.home-home.resul
 again-In-At-next c = record { info = c.look_up-again.ensures.info; near = c.look_up-again.ensures.near }
 
 pub steps_to-requires-in-At-next : goal.steps_to-requires-in-At-next
-steps_to-requires-in-At-next c = record { valid = c.requires.valid; start_le_l = again-inside (sought-In-At-next c) (looked-In-At-next c) c.arrival-l.ensures c.if-here-ne0.false c.in_default.is (again-In-At-next c) c.home-home.ensures c.if-again-ne0.false _ c.in-At-next.is; }
+steps_to-requires-in-At-next c = record { valid = c.requires.valid; start_le_l = again-inside (sought-In-At-next c) (looked-In-At-next c) c.arrival-l.ensures c.if-here-ne0.false c.in_default.is (again-In-At-next c) c.home-home.ensures c.if-again-ne0.false _ c.in-At-next.is }
 
 sought-After-steps_to-in-At-next : (c : goal.After-steps_to-in-At-next) → Sought (take c.args.n c.args.keys.now) (take c.args.n c.args.infos.now) c.args.t
 sought-After-steps_to-in-At-next c = record { valid = c.requires.valid; ascending = c.requires.keys_value; telling = c.requires.nonzero_infos }

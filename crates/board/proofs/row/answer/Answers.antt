@@ -1,6 +1,5 @@
 use Rattle.board.proofs.row.Doing.{gives_none, gives-call}
 use Rattle.board.specs.Call.{world}
-use borrow.Author.Rules.{rules}
 use Rattle.board.proofs.row.answer.Goals as goal
 
 pub returns-in_default : goal.returns-in_default

@@ -2,7 +2,6 @@ use Prim.Native.Nat.{◌*◌}
 use Rattle.board.proofs.row.Doing.{row_done}
 use Rattle.board.specs.Row.{call_at, call_width, reply_width}
 use Rattle.board.specs.Call.{world}
-use borrow.Author.Rules.{rules}
 use lib.ListN.{drop}
 use Rattle.board.proofs.row.do_row.Goals as goal
 

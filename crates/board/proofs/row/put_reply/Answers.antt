@@ -9,4 +9,4 @@ long : (c : goal.After-slice_known-2-1) → length c.reply_row-row.result ≡ re
 long c = search rules
 
 pub returns : goal.returns
-returns c = record { long = ap length (sym c.reply_row-row.ensures) ∙ long c; written = c.put_row.ensures ∙ ap (write_at c.args.replies.now c.args.at) c.reply_row-row.ensures; }
+returns c = record { long = ap length (sym c.reply_row-row.ensures) ∙ long c; written = c.put_row.ensures ∙ ap (write_at c.args.replies.now c.args.at) c.reply_row-row.ensures }

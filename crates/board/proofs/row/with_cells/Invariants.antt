@@ -1,13 +1,9 @@
-use Prim.Native.Nat.{ℕ, ◌≤◌, ◌+◌, ◌-◌}
-use Rattle.board.proofs.row.Encoding.{all-written}
-use Rattle.board.proofs.tick.Staging.{write_step, write-end}
+use Prim.Native.Nat.{◌≤◌, ◌+◌, ◌-◌}
 use Rattle.board.specs.Log.{write_at}
 use Rattle.board.specs.Row.{reply_width, cells_at}
 use Rattle.track.specs.Rule.{cell_count}
-use borrow.Author.Rules.{rules}
-use lib.ListN.{length, take, drop, set, length-set}
-use mathlib.Core.Path.{◌≡◌, ◌∙◌, refl, ap}
-use native.Mathlib.Omega.{arith}
+use lib.ListN.{length, take, drop}
+use mathlib.Core.Path.{◌≡◌}
 use Rattle.board.proofs.row.with_cells.Given as goal
 
 abbrev pub invariant-loop-j : goal.invariant-loop-j

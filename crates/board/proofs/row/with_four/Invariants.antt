@@ -1,13 +1,9 @@
-use Prim.Native.Nat.{ℕ, ◌≤◌, ◌+◌, ◌-◌}
-use Rattle.board.proofs.row.Encoding.{all-written}
-use Rattle.board.proofs.tick.Staging.{write-start, write_step, write-end}
+use Prim.Native.Nat.{◌≤◌, ◌+◌, ◌-◌}
 use Rattle.board.specs.Log.{write_at}
 use Rattle.board.specs.Row.{reply_width}
 use Rattle.track.specs.Rule.{threshold_count}
-use borrow.Author.Rules.{rules}
-use lib.ListN.{length, take, drop, set, length-set}
-use mathlib.Core.Path.{◌≡◌, ◌∙◌, refl, ap}
-use native.Mathlib.Omega.{arith}
+use lib.ListN.{length, take, drop}
+use mathlib.Core.Path.{◌≡◌}
 use Rattle.board.proofs.row.with_four.Given as goal
 
 abbrev pub invariant-loop-j : goal.invariant-loop-j

@@ -1,5 +1,4 @@
 use Rattle.board.proofs.rules.Passing.{allowed-none, allowed-event, allowed-wait, allowed-command, allowed-free, allowed-bound}
-use borrow.Author.Rules.{rules}
 use mathlib.Core.Path.{◌∙◌}
 use Rattle.board.proofs.rules.allowed.Goals as goal
 

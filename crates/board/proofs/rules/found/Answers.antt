@@ -2,7 +2,6 @@ use Rattle.board.proofs.rules.Passing.{found-out, found-absent, found-present}
 use Rattle.track.proofs.Numbers.{told}
 use Rattle.track.specs.Number.{natural_of}
 use Rattle.track.specs.declared.number.Natural.{Natural}
-use borrow.Author.Rules.{rules}
 use lib.IntN.{ℤ}
 use Rattle.board.proofs.rules.found.Goals as goal
 

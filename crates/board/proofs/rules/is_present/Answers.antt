@@ -1,5 +1,4 @@
 use Rattle.board.proofs.rules.Broken.{present-not, present-bit}
-use borrow.Author.Rules.{rules}
 use native.Mathlib.Omega.{arith}
 use Rattle.board.proofs.rules.is_present.Goals as goal
 

@@ -1,5 +1,4 @@
 use Rattle.board.proofs.rules.Passing.{master-none, master-self, master-other}
-use borrow.Author.Rules.{rules}
 use mathlib.Core.Path.{◌∙◌}
 use Rattle.board.proofs.rules.master_kept.Goals as goal
 

@@ -1,6 +1,4 @@
 use Rattle.board.proofs.rules.Passing.{place-absent, place-low, place_rest}
-use borrow.Author.Rules.{rules}
-use borrow.Author.Tests.{not-true, not-false}
 use mathlib.Core.Path.{◌∙◌, sym}
 use Rattle.board.proofs.rules.placed.Goals as goal
 

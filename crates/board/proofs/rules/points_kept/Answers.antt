@@ -1,8 +1,7 @@
-use Prim.Native.Nat.{◌≤◌, ◌-◌, ◌+◌}
+use Prim.Native.Nat.{◌+◌}
 use Rattle.board.proofs.rules.Passing.{row_next, row-end, points-low, points-place, points-allowed, points-track, points-target, points-next, points-end, length-mapped}
 use Rattle.board.specs.Board.{points_test}
 use borrow.Author.Rules.{rules}
-use borrow.Author.Tests.{not-true, not-false}
 use lib.ListN.{length, drop, take, get_or}
 use mathlib.Core.List.{◌∷◌}
 use mathlib.Core.Path.{◌≡◌, refl, ◌∙◌, sym}

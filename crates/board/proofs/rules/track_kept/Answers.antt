@@ -1,6 +1,4 @@
 use Rattle.board.proofs.rules.Passing.{track-unsound, track-unled, track-master}
-use borrow.Author.Rules.{rules}
-use borrow.Author.Tests.{not-true, not-false}
 use Rattle.board.proofs.rules.track_kept.Goals as goal
 
 pub returns-then-not-sound : goal.returns-then-not-sound

@@ -1,9 +1,6 @@
-use Prim.Native.Nat.{◌≤◌, ◌-◌}
 use Rattle.board.proofs.rules.Passing.{tracks-next, tracks-bad, tracks-end, length-mapped}
-use Rattle.board.specs.Board.{tracks_test}
 use borrow.Author.Rules.{rules}
-use borrow.Author.Tests.{not-true, not-false}
-use lib.ListN.{length, drop}
+use lib.ListN.{length}
 use mathlib.Core.Path.{◌≡◌, refl, ◌∙◌}
 use native.Mathlib.Omega.{arith}
 use Rattle.board.proofs.rules.tracks_kept.Goals as goal

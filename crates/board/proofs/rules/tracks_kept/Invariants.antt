@@ -1,11 +1,7 @@
 use Prim.Native.Nat.{◌≤◌, ◌-◌}
-use Rattle.board.proofs.rules.Passing.{tracks-next, tracks-bad, tracks-end, length-mapped}
 use Rattle.board.specs.Board.{tracks_test}
-use borrow.Author.Rules.{rules}
-use borrow.Author.Tests.{not-true, not-false}
-use lib.ListN.{length, drop}
-use mathlib.Core.Path.{◌≡◌, refl, ◌∙◌}
-use native.Mathlib.Omega.{arith}
+use lib.ListN.{drop}
+use mathlib.Core.Path.{◌≡◌}
 use Rattle.board.proofs.rules.tracks_kept.Given as goal
 
 abbrev pub invariant-loop-i : goal.invariant-loop-i

@@ -1,7 +1,6 @@
 use Rattle.board.proofs.rules.Broken.{shape_is}
 use Rattle.board.proofs.rules.Passing.{length-mapped, parts-clock, parts-count, parts-keys, parts-infos, parts-tracks, parts-points}
 use borrow.Author.Rules.{rules}
-use borrow.Author.Tests.{not-true, not-false}
 use Rattle.board.proofs.rules.unbroken.Goals as goal
 
 pub returns-then-clock-gt-END : goal.returns-then-clock-gt-END

@@ -6,7 +6,6 @@ use Rattle.track.specs.Number.{natural_of, coordinate_of, within}
 use Rattle.track.specs.declared.Track.{Track}
 use Rattle.track.specs.declared.number.Natural.{Natural}
 use Rattle.track.specs.declared.number.Place.{Place}
-use borrow.Author.Rules.{rules}
 use lib.IntN.{ℤ}
 use mathlib.Core.Path.{◌∙◌, sym, refl}
 use mir.Facts.{Fits-below}

@@ -1,6 +1,6 @@
 use native.Mathlib.Nat.{mod-lt}
 use native.Mathlib.Omega.{arith}
-use Rattle.board.proofs.stay.Rounding.{Alike, alike-begin, alike_next, alike_end}
+use Rattle.board.proofs.stay.Rounding.{alike-begin, alike_next, alike_end}
 use Rattle.board.proofs.stay.divisor.Goals as goal
 
 pub loop-y-init : goal.loop-y-init

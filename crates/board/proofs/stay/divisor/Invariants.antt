@@ -1,6 +1,4 @@
-use native.Mathlib.Nat.{mod-lt}
-use native.Mathlib.Omega.{arith}
-use Rattle.board.proofs.stay.Rounding.{Alike, alike-begin, alike_next, alike_end}
+use Rattle.board.proofs.stay.Rounding.{Alike}
 use Rattle.board.proofs.stay.divisor.Given as goal
 
 abbrev pub invariant-loop-y : goal.invariant-loop-y

@@ -1,4 +1,3 @@
-use borrow.Author.Rules.{rules}
 use native.Mathlib.Omega.{arith}
 use mathlib.Core.Logic.{inl, inr, ⊎_elim}
 use mathlib.Core.Path.{◌≡◌}
@@ -10,10 +9,10 @@ pub returns-then-y-first : goal.returns-then-y-first
 returns-then-y-first c = stays-low _ _ _ _ _ _ c.if-y-first.true
 
 pub leading-requires : goal.leading-requires
-leading-requires c = record { asked = c.requires; y_bound = c.if-y-first.false; fact = inl c.if-lo-eq0.true; }
+leading-requires c = record { asked = c.requires; y_bound = c.if-y-first.false; fact = inl c.if-lo-eq0.true }
 
 pub leading-requires-then-y-lo : goal.leading-requires-then-y-lo
-leading-requires-then-y-lo c = record { asked = c.requires; y_bound = c.if-y-first.false; fact = inr c.if-y-lo.true; }
+leading-requires-then-y-lo c = record { asked = c.requires; y_bound = c.if-y-first.false; fact = inr c.if-y-lo.true }
 
 pub returns-then-y-first-2 : goal.returns-then-y-first-2
 returns-then-y-first-2 c = stays-mid _ _ _ _ _ _ c.if-lo-eq0.false c.if-y-lo.false c.if-y-first-2.true

@@ -1,4 +1,3 @@
-use borrow.Author.Rules.{rules}
 use native.Mathlib.Nat.{mod-lt}
 use native.Mathlib.Omega.{arith}
 use Rattle.board.proofs.stay.Rounding.{divisor-small, rounds-more, rounds-less, rounds-same}

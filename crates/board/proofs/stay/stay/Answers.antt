@@ -1,4 +1,3 @@
-use borrow.Author.Rules.{rules}
 use native.Mathlib.Omega.{arith}
 use mathlib.Core.Logic.{inl, inr, ⊎_elim}
 use Prim.Native.Nat.{◌+◌, ◌<◌}
@@ -7,28 +6,28 @@ use Rattle.board.proofs.stay.stay.Goals as goal
 
 pub gaining-requires : goal.gaining-requires
 gaining-requires c = record {
-      first = omega (arith, c.requires.asked);
-      second = omega (arith, c.requires.asked);
-      width = omega (arith, c.requires.asked);
-      pace = omega (arith, c.requires.asked_2);
-      low = omega (arith, c.requires.asked);
-      high = omega (arith, c.requires.asked);
-      slow = ⊎_elim inl (λ (h : c.args.h < c.args.lo + c.args.lo). inr (omega arith)) c.requires.asked_2.slow;
-    }
+  first = omega (arith, c.requires.asked);
+  second = omega (arith, c.requires.asked);
+  width = omega (arith, c.requires.asked);
+  pace = omega (arith, c.requires.asked_2);
+  low = omega (arith, c.requires.asked);
+  high = omega (arith, c.requires.asked);
+  slow = ⊎_elim inl (λ (h : c.args.h < c.args.lo + c.args.lo). inr (omega arith)) c.requires.asked_2.slow;
+}
 
 pub returns-then-g-h : goal.returns-then-g-h
 returns-then-g-h c = stays-second _ _ _ _ _ _ _ _ c.if-g-h.true c.gaining.ensures
 
 pub gaining-requires-2 : goal.gaining-requires-2
 gaining-requires-2 c = record {
-      first = omega (arith, c.requires.asked);
-      second = omega (arith, c.requires.asked);
-      width = omega (arith, c.requires.asked);
-      pace = omega (arith, c.requires.asked);
-      low = omega (arith, c.requires.asked);
-      high = omega (arith, c.requires.asked);
-      slow = ⊎_elim inl (λ (h : c.args.g < c.args.lo + c.args.lo). inr (omega arith)) c.requires.asked.slow;
-    }
+  first = omega (arith, c.requires.asked);
+  second = omega (arith, c.requires.asked);
+  width = omega (arith, c.requires.asked);
+  pace = omega (arith, c.requires.asked);
+  low = omega (arith, c.requires.asked);
+  high = omega (arith, c.requires.asked);
+  slow = ⊎_elim inl (λ (h : c.args.g < c.args.lo + c.args.lo). inr (omega arith)) c.requires.asked.slow;
+}
 
 pub returns : goal.returns
 returns c = stays-first _ _ _ _ _ _ _ _ c.if-g-h.false c.gaining-2.ensures

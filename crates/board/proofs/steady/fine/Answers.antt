@@ -1,7 +1,6 @@
 use Rattle.board.proofs.steady.Exits.{fine-plays, fine-stands}
 use Rattle.track.specs.Rule.{coordinate_last, rate_most}
 use Prim.Native.Nat.{ℕ, ◌+◌, ◌*◌}
-use borrow.Author.Rules.{rules}
 use mathlib.Core.Path.{ap, ◌∙◌}
 use native.Mathlib.Nat.{mul-le-mul}
 use native.Mathlib.Omega.{arith}
@@ -15,12 +14,12 @@ overflow_add-result c = omega (arith, mul-le-mul {n₂ = coordinate_last} {m₂ 
 
 pub returns-then-t-eq-PLAYING : goal.returns-then-t-eq-PLAYING
 returns-then-t-eq-PLAYING c = (
-      ap (λ (x : ℕ). x * c.args.t.ticks + c.args.t.remainder) c.distance.ensures.0 ∙ fine-plays _ c.if-t-eq-PLAYING.true,
-      omega (arith, mul-le-mul {n₂ = coordinate_last} {m₂ = rate_most} c.distance.ensures.1 c.requires.rate.last, c.requires.rate),
-    )
+  ap (λ (x : ℕ). x * c.args.t.ticks + c.args.t.remainder) c.distance.ensures.0 ∙ fine-plays _ c.if-t-eq-PLAYING.true,
+  omega (arith, mul-le-mul {n₂ = coordinate_last} {m₂ = rate_most} c.distance.ensures.1 c.requires.rate.last, c.requires.rate),
+)
 
 pub returns : goal.returns
 returns c = (
-      ap (λ (x : ℕ). x * c.args.t.ticks) c.distance.ensures.0 ∙ fine-stands _ c.if-t-eq-PLAYING.false,
-      omega (arith, mul-le-mul {n₂ = coordinate_last} {m₂ = rate_most} c.distance.ensures.1 c.requires.rate.last, c.requires.rate),
-    )
+  ap (λ (x : ℕ). x * c.args.t.ticks) c.distance.ensures.0 ∙ fine-stands _ c.if-t-eq-PLAYING.false,
+  omega (arith, mul-le-mul {n₂ = coordinate_last} {m₂ = rate_most} c.distance.ensures.1 c.requires.rate.last, c.requires.rate),
+)

@@ -62,13 +62,16 @@ pub overflow_mul-hi : goal.overflow_mul-hi
 overflow_mul-hi c = omega (arith, times-parts c.args.t c.args.m c.requires.valid c.requires.valid_2 c.args.hi 4294967295 (omega (arith, c.ranges.hi)))
 
 pub rounds-requires : goal.rounds-requires
-rounds-requires c = let p = parts-some c.args.t c.args.m c.requires.valid c.requires.valid_2 in record { l_nonzero = (
-        mul-pos (omega (arith, c.span.ensures)) p,
-        omega (arith, times-parts c.args.t c.args.m c.requires.valid c.requires.valid_2 c.span.result (coordinate_last + 1) (omega (arith, c.span.ensures, c.requires.valid.ordered))),
-      ); k_nonzero = (
-        mul-pos (omega (arith, c.span-2.ensures)) p,
-        omega (arith, times-parts c.args.t c.args.m c.requires.valid c.requires.valid_2 c.span-2.result (coordinate_last + 1) (omega (arith, c.span-2.ensures, c.requires.valid_2.ordered))),
-      ); }
+rounds-requires c = let p = parts-some c.args.t c.args.m c.requires.valid c.requires.valid_2 in record {
+  l_nonzero = (
+    mul-pos (omega (arith, c.span.ensures)) p,
+    omega (arith, times-parts c.args.t c.args.m c.requires.valid c.requires.valid_2 c.span.result (coordinate_last + 1) (omega (arith, c.span.ensures, c.requires.valid.ordered))),
+  );
+  k_nonzero = (
+    mul-pos (omega (arith, c.span-2.ensures)) p,
+    omega (arith, times-parts c.args.t c.args.m c.requires.valid c.requires.valid_2 c.span-2.result (coordinate_last + 1) (omega (arith, c.span-2.ensures, c.requires.valid_2.ordered))),
+  );
+}
 
 pub returns : goal.returns
 returns c = round-within c.args.t c.args.m c.requires.valid c.requires.valid_2 _ _ (eq-eqb _ _ c.if-t-ne-PLAYING.false) (eq-eqb _ _ c.if-m-ne-PLAYING.false) (ne_eqb _ _ c.if-t-eq-DUE.false)

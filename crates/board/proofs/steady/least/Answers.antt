@@ -1,5 +1,4 @@
 use Rattle.board.proofs.steady.Exits.{least-plays, least-stands}
-use borrow.Author.Rules.{rules}
 use mathlib.Core.Path.{◌∙◌}
 use native.Mathlib.Omega.{arith}
 use Rattle.board.proofs.steady.least.Goals as goal

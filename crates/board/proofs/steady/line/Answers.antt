@@ -31,11 +31,14 @@ pub overflow_mul-hi : goal.overflow_mul-hi
 overflow_mul-hi c = omega (arith, times-parts c.args.t c.args.m c.requires.valid c.requires.valid_2 _ coordinate_last c.requires.lo_bound.1)
 
 pub stay-ticks-requires : goal.stay-ticks-requires
-stay-ticks-requires c = record { asked = asked-line c.args.t c.args.m c.requires.valid c.requires.valid_2 _ _ _ _ _ c.fine.ensures.1 c.fine-2.ensures.1
-          (omega (arith, mul-le-mul_right c.args.m.ticks (pace-small c.args.t c.requires.valid), ap (λ (x : ℕ). x * c.args.m.ticks) c.pace.ensures))
-          c.requires.lo_bound.0 c.requires.lo_bound.1; asked_2 = asked-line c.args.t c.args.m c.requires.valid c.requires.valid_2 _ _ _ _ _ c.fine.ensures.1 c.fine-2.ensures.1
-          (omega (arith, mul-le-mul_right c.args.t.ticks (pace-small c.args.m c.requires.valid_2), ap (λ (x : ℕ). x * c.args.t.ticks) c.pace-2.ensures))
-          c.requires.lo_bound.0 c.requires.lo_bound.1; }
+stay-ticks-requires c = record {
+  asked = asked-line c.args.t c.args.m c.requires.valid c.requires.valid_2 _ _ _ _ _ c.fine.ensures.1 c.fine-2.ensures.1
+      (omega (arith, mul-le-mul_right c.args.m.ticks (pace-small c.args.t c.requires.valid), ap (λ (x : ℕ). x * c.args.m.ticks) c.pace.ensures))
+      c.requires.lo_bound.0 c.requires.lo_bound.1;
+  asked_2 = asked-line c.args.t c.args.m c.requires.valid c.requires.valid_2 _ _ _ _ _ c.fine.ensures.1 c.fine-2.ensures.1
+      (omega (arith, mul-le-mul_right c.args.t.ticks (pace-small c.args.m c.requires.valid_2), ap (λ (x : ℕ). x * c.args.t.ticks) c.pace-2.ensures))
+      c.requires.lo_bound.0 c.requires.lo_bound.1;
+}
 
 pub returns : goal.returns
 returns c = line-holds _ _ c.requires.valid c.requires.valid_2 _ _ _ _

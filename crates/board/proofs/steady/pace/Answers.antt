@@ -1,5 +1,4 @@
 use Rattle.board.proofs.steady.Exits.{pace-plays, pace-stands}
-use borrow.Author.Rules.{rules}
 use Rattle.board.proofs.steady.pace.Goals as goal
 
 pub returns-then-t-eq-PLAYING : goal.returns-then-t-eq-PLAYING

@@ -1,6 +1,5 @@
 use Rattle.board.proofs.stay.Bands.{rows-small}
 use Rattle.board.proofs.steady.Steadying.{holds-steady}
-use borrow.Author.Rules.{rules}
 use mathlib.Core.Logic.{inl, inr}
 use Rattle.board.proofs.steady.steady.Goals as goal
 

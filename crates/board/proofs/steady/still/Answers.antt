@@ -1,5 +1,4 @@
 use Rattle.board.proofs.steady.Exits.{still-stands, still-on}
-use borrow.Author.Rules.{rules}
 use mathlib.Core.Path.{◌∙◌}
 use Rattle.board.proofs.steady.still.Goals as goal
 

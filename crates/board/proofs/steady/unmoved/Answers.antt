@@ -1,5 +1,4 @@
 use Rattle.board.proofs.steady.Steadying.{still-within}
-use borrow.Author.Rules.{rules}
 use native.Mathlib.Omega.{arith}
 use Rattle.board.proofs.steady.unmoved.Goals as goal
 

@@ -1,6 +1,5 @@
 use Prim.Native.Nat.{ℕ, ◌-◌}
 use Rattle.board.proofs.steady.Exits.{width-plays, width-stands}
-use borrow.Author.Rules.{rules}
 use mathlib.Core.Path.{◌∙◌, ap}
 use native.Mathlib.Omega.{arith}
 use Rattle.board.proofs.steady.width.Goals as goal

@@ -1,5 +1,4 @@
 use Rattle.board.proofs.steady.Steadying.{within-turned, ever-holds, longer-holds}
-use borrow.Author.Rules.{rules}
 use Rattle.board.proofs.steady.within_band.Goals as goal
 
 pub returns-then-any-eq-END : goal.returns-then-any-eq-END

@@ -15,9 +15,9 @@ pub returns-in-Goes : goal.returns-in-Goes
 returns-in-Goes c =
     let e = c.stage_change-count.ensures in
     let w = goes-out c.args.clock.0 c.args.d c.args.t c.args.stage.now c.args.n (sym c.grid.ensures ∙ c.in-Goes.is) c.entered-after.ensures (e.count, e.bytes) in
-    record { staged = w.0; bytes = w.1; }
+    record { staged = w.0; bytes = w.1 }
 
 pub returns-in-Refused : goal.returns-in-Refused
 returns-in-Refused c =
     let w = refused-out c.args.clock.0 c.args.d c.args.t c.args.stage.now c.args.n (sym c.grid.ensures ∙ c.in-Refused.is) c.put_record.ensures in
-    record { staged = w.0; bytes = w.1; }
+    record { staged = w.0; bytes = w.1 }

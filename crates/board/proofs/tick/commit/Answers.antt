@@ -1,9 +1,7 @@
-use Prim.Native.Nat.{◌≤◌, ◌+◌, ◌-◌}
 use Rattle.board.proofs.tick.Staging.{write-start, write_step, write-end}
-use Rattle.board.specs.Log.{write_at}
 use borrow.Author.Rules.{rules}
-use lib.ListN.{length, take, drop, length-set}
-use mathlib.Core.Path.{◌≡◌, ◌∙◌, refl}
+use lib.ListN.{length-set}
+use mathlib.Core.Path.{◌∙◌, refl}
 use native.Mathlib.Omega.{arith}
 use Rattle.board.proofs.tick.commit.Goals as goal
 

@@ -1,5 +1,4 @@
 use Rattle.board.proofs.tick.More.{needs-more-asked, needs-more-mode}
-use borrow.Author.Rules.{rules}
 use Rattle.board.proofs.tick.needs_more.Goals as goal
 
 pub returns-then-d-ne0 : goal.returns-then-d-ne0

@@ -4,7 +4,7 @@ use Rattle.board.proofs.tick.obey.Goals as goal
 pub returns-then-d-eq0 : goal.returns-then-d-eq0
 returns-then-d-eq0 c =
     let w = obeyed-none c.args.clock.0 c.args.d c.args.t c.args.stage.now c.args.n c.if-d-eq0.true in
-    record { staged = w.0; bytes = w.1; }
+    record { staged = w.0; bytes = w.1 }
 
 pub command-requires : goal.command-requires
 command-requires c =
@@ -18,4 +18,4 @@ pub returns : goal.returns
 returns c =
     let e = c.command.ensures in
     let w = obeyed-some c.args.clock.0 c.args.d c.args.t c.args.stage.now c.args.n c.if-d-eq0.false (e.staged, e.bytes) in
-    record { staged = w.0; bytes = w.1; }
+    record { staged = w.0; bytes = w.1 }

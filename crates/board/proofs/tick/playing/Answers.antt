@@ -1,10 +1,9 @@
-use Prim.Native.Nat.{◌≤◌, ◌/◌, ◌^◌, ◌-◌, ◌%◌}
+use Prim.Native.Nat.{◌/◌, ◌^◌, ◌-◌, ◌%◌}
 use Rattle.board.proofs.rules.Passing.{length-mapped}
 use Rattle.board.proofs.tick.PlayingLaws.{bit-small, playing-word, word_none, word-all, word_room, word_next}
 use Rattle.board.specs.Board.{track_at}
-use Rattle.board.specs.Tick.{playing_word}
 use borrow.Author.Rules.{rules}
-use lib.ListN.{length, drop}
+use lib.ListN.{length}
 use mathlib.Core.Path.{◌≡◌, ◌∙◌}
 use native.Mathlib.Omega.{arith}
 use Rattle.board.proofs.tick.playing.Goals as goal

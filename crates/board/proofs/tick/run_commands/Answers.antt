@@ -1,5 +1,5 @@
-use Prim.Native.Nat.{◌<◌, ◌-◌}
-use Rattle.board.proofs.tick.Commands.{Turns, turns-start, turn-rule, turn-valid, turn, turns-end}
+use Prim.Native.Nat.{◌<◌}
+use Rattle.board.proofs.tick.Commands.{turns-start, turn-rule, turn-valid, turn, turns-end}
 use Rattle.board.proofs.rules.Passing.{length-mapped}
 use Rattle.board.specs.Tick.{InfoRule}
 use borrow.Author.Rules.{rules}
@@ -57,7 +57,7 @@ ruled-After-obey-arg-1 : (c : goal.After-obey-arg-1) → InfoRule (get_or c.args
 ruled-After-obey-arg-1 c = turn-rule _ _ _ _ _ _ c.loop-j.next c.loop-j.stage c.loop-j.count c.loop-j.j c.loop-j.invariant (inside-After-obey-arg-1 c) _ (read-After-obey-arg-1 c)
 
 pub obey-r-requires : goal.obey-r-requires
-obey-r-requires c = let e = many-After-obey-arg-1 c in record { valid = turn-valid _ _ _ _ _ _ c.loop-j.next c.loop-j.stage c.loop-j.count c.loop-j.j c.loop-j.invariant (inside-After-obey-arg-1 c) _ (read-After-obey-arg-1 c); info_rule = ruled-After-obey-arg-1 c; record_width_in_bounds = omega (arith, e, c.loop-j-test.true, c.loop-j.invariant.room); }
+obey-r-requires c = let e = many-After-obey-arg-1 c in record { valid = turn-valid _ _ _ _ _ _ c.loop-j.next c.loop-j.stage c.loop-j.count c.loop-j.j c.loop-j.invariant (inside-After-obey-arg-1 c) _ (read-After-obey-arg-1 c); info_rule = ruled-After-obey-arg-1 c; record_width_in_bounds = omega (arith, e, c.loop-j-test.true, c.loop-j.invariant.room) }
 
 -- the info that a turn reads is one of them
 read-After-after-1 : (c : goal.After-after-1) →
@@ -95,4 +95,4 @@ many-After-playing-word c = length-take-le c.args.m c.args.reached.now c.require
 pub returns : goal.returns
 returns c = let e = many-After-playing-word c in
     let d = turns-end _ _ _ _ _ _ c.loop-j.next c.loop-j.stage c.loop-j.count c.loop-j.j c.loop-j.invariant (omega (arith, c.loop-j-test.false)) in
-    record { tracks = d.0; count = d.1.0; bytes = d.1.1; word = c.playing-word.ensures; }
+    record { tracks = d.0; count = d.1.0; bytes = d.1.1; word = c.playing-word.ensures }

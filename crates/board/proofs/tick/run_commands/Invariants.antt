@@ -1,12 +1,6 @@
-use Prim.Native.Nat.{◌<◌, ◌-◌}
-use Rattle.board.proofs.tick.Commands.{Turns, turns-start, turn-rule, turn-valid, turn, turns-end}
-use Rattle.board.proofs.rules.Passing.{length-mapped}
-use Rattle.board.specs.Tick.{InfoRule}
-use borrow.Author.Rules.{rules}
-use lib.ListN.{length, take, get_or}
-use lib.Seq.{get_or-take, length-take-le}
-use mathlib.Core.Path.{◌≡◌}
-use native.Mathlib.Omega.{arith}
+use Prim.Native.Nat.{◌-◌}
+use Rattle.board.proofs.tick.Commands.{Turns}
+use lib.ListN.{take}
 use Rattle.board.proofs.tick.run_commands.Given as goal
 
 abbrev pub invariant-loop-j : goal.invariant-loop-j

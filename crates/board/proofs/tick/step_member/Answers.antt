@@ -15,7 +15,7 @@ overflow_add-result c = omega (arith, c.requires.valid.rate)
 pub returns-then-not-made : goal.returns-then-not-made
 returns-then-not-made c =
     let w = unstepped-out c.args.clock.0 c.args.track c.args.t c.args.d c.args.stage.now c.args.n c.requires.made_value c.if-not-made.true in
-    record { stepped = w.0; bytes = w.1; }
+    record { stepped = w.0; bytes = w.1 }
 
 pub stage_change-count-requires : goal.stage_change-count-requires
 unfolding waits
@@ -23,7 +23,7 @@ stage_change-count-requires c =
     let m = point-most c.args.clock.0 c.args.track c.args.l.0 c.args.t.passes.0 c.args.d in
     let p = c.stage_point-noted.ensures in
     let l = written-long c.args.stage.now c.args.n (point_records c.args.clock.0 c.args.track c.args.l.0 c.args.t.passes.0 c.args.d)
-        (p.count, p.bytes) (omega (arith, m, c.requires.record_width_in_bounds)) in
+    (p.count, p.bytes) (omega (arith, m, c.requires.record_width_in_bounds)) in
     let v = (step-valid c.args.t c.requires.valid (waits c.args.d)).mode in
     record {
       record_width_in_bounds = omega (arith, l, p.count, c.requires.record_width_in_bounds, m);
@@ -44,6 +44,6 @@ returns c =
     let p = c.stage_point-noted.ensures in
     let q = c.stage_change-count.ensures in
     let w = step-out c.args.clock.0 c.args.track c.args.t c.args.d c.args.stage.now c.args.n c.requires.valid c.requires.made_value c.if-not-made.false
-        (omega (arith, c.requires.record_width_in_bounds)) c.requires.l_value c.passes_at-passes.ensures c.step-after.ensures
-        (p.count, p.bytes) (q.count, q.bytes) c.remainder_left.ensures in
-    record { stepped = w.0; bytes = w.1; }
+    (omega (arith, c.requires.record_width_in_bounds)) c.requires.l_value c.passes_at-passes.ensures c.step-after.ensures
+    (p.count, p.bytes) (q.count, q.bytes) c.remainder_left.ensures in
+    record { stepped = w.0; bytes = w.1 }

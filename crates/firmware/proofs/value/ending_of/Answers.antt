@@ -1,4 +1,3 @@
-use borrow.Author.Rules.{rules}
 use mathlib.Core.Path.{ap, sym}
 use Rattle.board.specs.Call.{advanced_said}
 use Rattle.firmware.proofs.value.ending_of.Goals as goal

@@ -1,6 +1,5 @@
 use Rattle.firmware.proofs.Numbering.{gives-number}
 use Rattle.board.proofs.mode.Results.{gives-told}
-use borrow.Author.Rules.{rules}
 use mir.Facts.{to_z-of_z}
 use Rattle.firmware.proofs.value.mode_call.Goals as goal
 

@@ -1,5 +1,4 @@
 use Rattle.board.proofs.mode.Results.{resume-gives}
-use borrow.Author.Rules.{rules}
 use mir.Facts.{to_z-of_z}
 use Rattle.firmware.proofs.value.resume.Goals as goal
 

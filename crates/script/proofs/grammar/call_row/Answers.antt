@@ -1,8 +1,6 @@
 use Rattle.script.proofs.grammar.Rows.{call_none, call-some, call-read}
-use borrow.Author.Tests.{not-true, not-false}
 use native.Mathlib.Omega.{arith}
 use mathlib.Core.Path.{◌∙◌}
-use borrow.Author.Rules.{rules}
 use Rattle.script.proofs.grammar.call_row.Goals as goal
 
 pub returns-then-not-read : goal.returns-then-not-read

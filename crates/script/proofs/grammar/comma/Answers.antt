@@ -1,10 +1,6 @@
-use Prim.Native.Nat.{◌+◌, ◌-◌}
-use mathlib.Core.Path.{◌≡◌, refl, ◌∙◌}
+use mathlib.Core.Path.{refl, ◌∙◌}
 use native.Mathlib.Omega.{arith}
-use lib.ListN.{length, drop}
-use Rattle.script.specs.Grammar.{up_to}
 use Rattle.script.proofs.grammar.Fields.{up-found, up_next, up-end}
-use borrow.Author.Rules.{rules}
 use Rattle.script.proofs.grammar.comma.Goals as goal
 
 pub loop-i-init : goal.loop-i-init

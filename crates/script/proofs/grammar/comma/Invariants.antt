@@ -1,10 +1,7 @@
 use Prim.Native.Nat.{◌+◌, ◌-◌}
-use mathlib.Core.Path.{◌≡◌, refl, ◌∙◌}
-use native.Mathlib.Omega.{arith}
+use mathlib.Core.Path.{◌≡◌}
 use lib.ListN.{length, drop}
 use Rattle.script.specs.Grammar.{up_to}
-use Rattle.script.proofs.grammar.Fields.{up-found, up_next, up-end}
-use borrow.Author.Rules.{rules}
 use Rattle.script.proofs.grammar.comma.Given as goal
 
 abbrev pub invariant-loop-i : goal.invariant-loop-i

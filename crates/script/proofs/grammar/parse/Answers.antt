@@ -1,6 +1,5 @@
 use Rattle.script.proofs.grammar.Rows.{line-empty, line-long, line-open, line-whole}
 use native.Mathlib.Omega.{arith}
-use borrow.Author.Rules.{rules}
 use Rattle.script.proofs.grammar.parse.Goals as goal
 
 pub returns-then-n-eq0 : goal.returns-then-n-eq0

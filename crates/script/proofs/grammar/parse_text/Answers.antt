@@ -1,6 +1,5 @@
 use Rattle.script.proofs.grammar.Fields.{up-within}
 use Rattle.script.proofs.grammar.Rows.{text-call}
-use borrow.Author.Rules.{rules}
 use native.Mathlib.Omega.{arith}
 use Rattle.script.proofs.grammar.parse_text.Goals as goal
 

@@ -1,15 +1,8 @@
-use Prim.Native.Nat.{◌+◌, ◌-◌, ◌≤◌}
-use Rattle.script.proofs.grammar.Fields.{up-within}
-use Rattle.script.proofs.grammar.Rows.{Zeros, read_ahead, read-start, row-short, row-bad, row_long, row_done, row_next, zeros-next, row-none, row-some}
+use Prim.Native.Nat.{◌-◌, ◌≤◌}
+use Rattle.script.proofs.grammar.Rows.{Zeros, read_ahead}
 use Rattle.script.specs.Grammar.{numbers_of, behind}
-use Rattle.script.specs.declared.number.Number.TheVariants.{Value}
-use borrow.Author.Rules.{rules}
-use lib.ListN.{length, take, drop, length-set}
-use mathlib.Core.Path.{◌≡◌, refl, sym, ap, ◌∙◌}
-use mir.Facts.{to_z-of_z}
-use mir.Syntax.{w64}
-use mir.Val.{SFits, to_z, of_z}
-use native.Mathlib.Omega.{arith}
+use lib.ListN.{length, take, drop}
+use mathlib.Core.Path.{◌≡◌}
 use Rattle.script.proofs.grammar.read_row.Given as goal
 
 abbrev pub invariant-loop-n : goal.invariant-loop-n

@@ -1,7 +1,6 @@
 use Rattle.script.proofs.lines.Pieces.{kept_put, kept_full}
 use lib.ListN.{length-set}
 use mathlib.Core.Path.{◌∙◌}
-use borrow.Author.Rules.{rules}
 use Rattle.script.proofs.lines.put.Goals as goal
 
 pub returns-then-n-lt-KEPT : goal.returns-then-n-lt-KEPT

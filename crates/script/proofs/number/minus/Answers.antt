@@ -1,4 +1,3 @@
-use borrow.Author.Rules.{rules}
 use mir.Facts.{to_z-of_z}
 use Rattle.script.proofs.number.Digits.{sfits-minus, minus_is}
 use Rattle.script.proofs.number.minus.Goals as goal

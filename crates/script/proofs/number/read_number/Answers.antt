@@ -3,7 +3,6 @@ use mir.Facts.{to_z-of_z}
 use mir.Syntax.{w64}
 use Rattle.script.proofs.number.Digits.{number-none, number-minus-zero, number-minus, number-minus-none, number-plus, number-plus-none}
 use Rattle.script.specs.declared.number.Size.TheVariants.{NoSize}
-use borrow.Author.Rules.{rules}
 use Rattle.script.proofs.number.read_number.Goals as goal
 
 pub returns-then-field-eq0 : goal.returns-then-field-eq0

@@ -1,10 +1,6 @@
-use Prim.Native.Nat.{◌-◌, ◌≤◌}
-use mathlib.Core.Path.{◌≡◌, sym, ◌∙◌}
+use mathlib.Core.Path.{sym, ◌∙◌}
 use native.Mathlib.Omega.{arith}
-use lib.ListN.{length, drop}
-use Rattle.script.specs.Number.{size_from, size_of}
 use Rattle.script.proofs.number.Digits.{size_none, size-zero, size-more, size-start, size-over, size_low, size-high, size-next, size-done}
-use borrow.Author.Rules.{rules}
 use Rattle.script.proofs.number.read_size.Goals as goal
 
 pub returns-then-text-at : goal.returns-then-text-at

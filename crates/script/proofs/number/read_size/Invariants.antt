@@ -1,10 +1,7 @@
 use Prim.Native.Nat.{◌-◌, ◌≤◌}
-use mathlib.Core.Path.{◌≡◌, sym, ◌∙◌}
-use native.Mathlib.Omega.{arith}
+use mathlib.Core.Path.{◌≡◌}
 use lib.ListN.{length, drop}
 use Rattle.script.specs.Number.{size_from, size_of}
-use Rattle.script.proofs.number.Digits.{size_none, size-zero, size-more, size-start, size-over, size_low, size-high, size-next, size-done}
-use borrow.Author.Rules.{rules}
 use Rattle.script.proofs.number.read_size.Given as goal
 
 abbrev pub invariant-loop-i : goal.invariant-loop-i

@@ -1,5 +1,4 @@
 use Rattle.script.proofs.text.Written.{text-adds}
-use borrow.Author.Rules.{rules}
 use Rattle.script.proofs.output.end_line.Goals as goal
 
 pub returns : goal.returns

@@ -1,5 +1,4 @@
 use Rattle.script.proofs.output.Showing.{note-is}
-use borrow.Author.Rules.{rules}
 use Rattle.script.proofs.output.note.Goals as goal
 
 pub returns-in-Refused : goal.returns-in-Refused

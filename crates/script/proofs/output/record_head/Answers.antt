@@ -1,6 +1,5 @@
 use Rattle.script.proofs.text.Written.{text-adds}
 use native.Mathlib.Omega.{arith}
-use borrow.Author.Rules.{rules}
 use Rattle.script.proofs.output.record_head.Goals as goal
 
 pub number-requires : goal.number-requires

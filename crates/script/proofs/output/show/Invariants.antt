@@ -1,11 +1,8 @@
 use Prim.Native.Nat.{◌≤◌, ◌*◌, ◌-◌}
-use Rattle.script.proofs.output.Showing.{drop-least, shown-next}
 use Rattle.script.specs.Output.{record_lines}
 use lib.ListN.{length, take, drop}
 use mathlib.Core.List.{◌++◌}
-use mathlib.Core.Path.{◌≡◌, refl, ap, sym, ◌∙◌}
-use native.Mathlib.Omega.{arith}
-use borrow.Author.Rules.{rules}
+use mathlib.Core.Path.{◌≡◌}
 use Rattle.script.specs.Text.{line_room}
 use Rattle.script.proofs.output.show.Given as goal
 

@@ -1,7 +1,6 @@
 use Rattle.script.specs.Output.{unpacked_line}
 use Rattle.board.specs.Log.{unpack_said}
 use mathlib.Core.Path.{ap, sym, ◌∙◌}
-use borrow.Author.Rules.{rules}
 use Rattle.script.proofs.output.unpacked_line.Goals as goal
 
 pub returns-in-Held : goal.returns-in-Held

@@ -1,6 +1,5 @@
 use Rattle.board.specs.Call.{world}
 use Rattle.script.proofs.run.Runs.{first_gives}
-use borrow.Author.Rules.{rules}
 use Rattle.script.proofs.run.do_first.Goals as goal
 
 pub returns : goal.returns

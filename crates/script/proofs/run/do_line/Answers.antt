@@ -1,6 +1,5 @@
 use Rattle.board.specs.Call.{world}
 use Rattle.script.proofs.run.Runs.{line_gives}
-use borrow.Author.Rules.{rules}
 use Rattle.script.proofs.run.do_line.Goals as goal
 
 pub returns : goal.returns

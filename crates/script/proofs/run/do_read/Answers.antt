@@ -2,7 +2,6 @@ use Rattle.script.specs.Grammar.{line_call}
 use Rattle.board.specs.Call.{world}
 use Rattle.script.proofs.run.Runs.{line_gives}
 use mathlib.Core.Path.{ap}
-use borrow.Author.Rules.{rules}
 use Rattle.script.proofs.run.do_read.Goals as goal
 
 pub returns : goal.returns

@@ -1,25 +1,23 @@
-use Prim.Native.Nat.{ℕ, ◌*◌, ◌-◌, ◌≤◌}
+use Prim.Native.Nat.{ℕ}
 use Rattle.script.proofs.run.Runs.{goes_none, goes_on, goes-text, goes-line, goes-open}
-use Rattle.script.specs.Run.{Goes}
 use borrow.Author.Tests.{not-true, not-false}
-use lib.ListN.{length, take, drop}
+use lib.ListN.{take, drop}
 use mathlib.Core.Bool.{true}
 use mathlib.Core.List.{List, ◌++◌, append-nil}
 use mathlib.Core.Path.{◌≡◌, refl, ap, sym, ◌∙◌}
 use native.Mathlib.Omega.{arith}
 use borrow.Author.Rules.{rules}
-use Rattle.script.specs.Text.{line_room}
 use Rattle.script.proofs.run.feed.Goals as goal
 
 pub loop-out-init : goal.loop-out-init
 loop-out-init c = (
-      omega arith,
-      refl,
-      refl,
-      omega arith,
-      omega arith,
-      goes_none c.args.x (drop c.args.at c.args.piece.now) c.args.log.now,
-    )
+  omega arith,
+  refl,
+  refl,
+  omega arith,
+  omega arith,
+  goes_none c.args.x (drop c.args.at c.args.piece.now) c.args.log.now,
+)
 
 pub returns-then-not-f : goal.returns-then-not-f
 returns-then-not-f c = let h = (not-true _ c.if-not-f.true) in

@@ -1,13 +1,7 @@
-use Prim.Native.Nat.{ℕ, ◌*◌, ◌-◌, ◌≤◌}
-use Rattle.script.proofs.run.Runs.{goes_none, goes_on, goes-text, goes-line, goes-open}
+use Prim.Native.Nat.{◌*◌, ◌-◌, ◌≤◌}
 use Rattle.script.specs.Run.{Goes}
-use borrow.Author.Tests.{not-true, not-false}
 use lib.ListN.{length, take, drop}
-use mathlib.Core.Bool.{true}
-use mathlib.Core.List.{List, ◌++◌, append-nil}
-use mathlib.Core.Path.{◌≡◌, refl, ap, sym, ◌∙◌}
-use native.Mathlib.Omega.{arith}
-use borrow.Author.Rules.{rules}
+use mathlib.Core.Path.{◌≡◌}
 use Rattle.script.specs.Text.{line_room}
 use Rattle.script.proofs.run.feed.Given as goal
 

@@ -1,10 +1,7 @@
-use Prim.Native.Nat.{◌≤◌, ◌<◌, ◌-◌, ◌^◌}
-use Rattle.script.proofs.text.Written.{room, digit-next, digit-last}
+use Prim.Native.Nat.{◌≤◌, ◌<◌, ◌^◌}
 use Rattle.script.specs.Text.{digits_most, digits_then, decimal}
-use lib.ListN.{length, drop, length-set}
-use mathlib.Core.Path.{◌≡◌, refl, ◌∙◌}
-use native.Mathlib.Omega.{arith}
-use borrow.Author.Rules.{rules}
+use lib.ListN.{length, drop}
+use mathlib.Core.Path.{◌≡◌}
 use Rattle.script.proofs.text.digits_of.Given as goal
 
 abbrev pub invariant-loop-v : goal.invariant-loop-v

@@ -1,10 +1,7 @@
 use Prim.Native.Nat.{◌+◌, ◌-◌, ◌≤◌}
-use mathlib.Core.Path.{◌≡◌, ◌∙◌}
-use native.Mathlib.Omega.{arith}
+use mathlib.Core.Path.{◌≡◌}
 use lib.ListN.{drop}
 use Rattle.script.specs.Word.{code_from, code_of, forms}
-use Rattle.script.proofs.word.Words.{code-found, code-next, code-end}
-use borrow.Author.Rules.{rules}
 use Rattle.script.proofs.word.code_of.Given as goal
 
 abbrev pub invariant-loop-k : goal.invariant-loop-k

@@ -1,6 +1,5 @@
 use Rattle.script.proofs.word.Words.{count_at}
-use borrow.Author.Rules.{rules}
 use Rattle.script.proofs.word.count.Goals as goal
 
 pub returns : goal.returns
-returns c = let w = count_at c.args.code in record { count = w.0; few = w.1; }
+returns c = let w = count_at c.args.code in record { count = w.0; few = w.1 }

@@ -1,10 +1,6 @@
-use Prim.Native.Nat.{◌-◌, ◌≤◌, ◌<◌}
-use mathlib.Core.Path.{◌≡◌}
+use Prim.Native.Nat.{◌-◌}
 use native.Mathlib.Omega.{arith}
-use lib.ListN.{length, drop}
-use Rattle.script.specs.Word.{packed}
 use Rattle.script.proofs.word.Words.{packed_start, packed-over, packed-next, packed-done}
-use borrow.Author.Rules.{rules}
 use Rattle.script.proofs.word.pack.Goals as goal
 
 pub loop-i-init : goal.loop-i-init

@@ -1,10 +1,7 @@
-use Prim.Native.Nat.{◌-◌, ◌≤◌, ◌<◌}
+use Prim.Native.Nat.{◌≤◌, ◌<◌}
 use mathlib.Core.Path.{◌≡◌}
-use native.Mathlib.Omega.{arith}
 use lib.ListN.{length, drop}
 use Rattle.script.specs.Word.{packed}
-use Rattle.script.proofs.word.Words.{packed_start, packed-over, packed-next, packed-done}
-use borrow.Author.Rules.{rules}
 use Rattle.script.proofs.word.pack.Given as goal
 
 abbrev pub invariant-loop-i : goal.invariant-loop-i

@@ -1,7 +1,6 @@
 use Rattle.track.proofs.Numbers.{told}
 use Rattle.track.proofs.Signs.{between-nowhere, between-below, between-above, between_in}
 use Rattle.track.specs.Number.{coordinate_of}
-use borrow.Author.Rules.{rules}
 use mathlib.Core.Path.{sym}
 use Rattle.track.proofs.Coordinate.between.Goals as goal
 

@@ -1,5 +1,4 @@
 use Rattle.track.proofs.Arrivals.{arrival-due, arrival-end, arrival-down, arrival-start, arrival-up}
-use borrow.Author.Rules.{rules}
 use Rattle.track.proofs.Track.arrival.Goals as goal
 
 pub returns-then-self-eq-DUE : goal.returns-then-self-eq-DUE

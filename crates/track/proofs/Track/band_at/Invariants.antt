@@ -1,10 +1,7 @@
 use Prim.Native.Nat.{◌+◌, ◌-◌, ◌≤◌}
-use lib.ListN.{length, drop}
-use mathlib.Core.Path.{◌≡◌, refl, sym, ◌∙◌}
-use native.Mathlib.Omega.{arith}
+use lib.ListN.{drop}
+use mathlib.Core.Path.{◌≡◌}
 use Rattle.track.specs.Follow.{up_to_zero, band_of}
-use Rattle.track.proofs.Follows.{band-next, band-none, band-stays, band-end}
-use borrow.Author.Rules.{rules}
 use Rattle.track.proofs.Track.band_at.Given as goal
 
 abbrev pub invariant-loop-k : goal.invariant-loop-k

@@ -1,7 +1,5 @@
 use Rattle.track.proofs.Exits.{changed-not, changed-by}
 use Rattle.track.specs.Setup.{set_by}
-use borrow.Author.Rules.{rules}
-use borrow.Author.Tests.{not-true, not-false}
 use mir.Facts.{to_z-of_z}
 use mir.Syntax.{w64}
 use Rattle.track.proofs.Track.changed.Goals as goal

@@ -1,5 +1,4 @@
 use Rattle.track.proofs.Exits.{closes-same, closes-mode, closes-due, closes-far}
-use borrow.Author.Rules.{rules}
 use Rattle.track.proofs.Track.closes.Goals as goal
 
 pub returns-then-direction-self : goal.returns-then-direction-self

@@ -1,5 +1,4 @@
 use Rattle.track.proofs.Strides.{phase-small}
-use borrow.Author.Rules.{rules}
 use native.Mathlib.Omega.{arith}
 use Rattle.track.proofs.Track.distance.Goals as goal
 

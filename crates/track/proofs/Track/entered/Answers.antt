@@ -1,5 +1,4 @@
 use Rattle.track.proofs.Exits.{entered-stops, entered-stays}
-use borrow.Author.Rules.{rules}
 use Rattle.track.proofs.Track.entered.Goals as goal
 
 pub returns-then-mode-eq-STOPPED : goal.returns-then-mode-eq-STOPPED

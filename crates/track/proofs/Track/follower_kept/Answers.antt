@@ -1,6 +1,5 @@
 use Rattle.track.proofs.Follows.{follower-pairs, follower-none, follower-early, follower-band}
 use borrow.Author.Rules.{rules}
-use borrow.Author.Tests.{not-true, not-false}
 use lib.ListN.{length}
 use mathlib.Core.Path.{◌≡◌}
 use Rattle.track.proofs.Track.follower_kept.Goals as goal

@@ -1,5 +1,4 @@
 use Rattle.track.proofs.Follows.{judged-stopped, judged-led, judged-both}
-use borrow.Author.Rules.{rules}
 use Rattle.track.proofs.Track.judged.Goals as goal
 
 pub returns-then-self-eq-STOPPED : goal.returns-then-self-eq-STOPPED

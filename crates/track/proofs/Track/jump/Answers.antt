@@ -3,7 +3,6 @@ use Rattle.track.specs.Number.{coordinate_of, within}
 use Rattle.track.specs.Setup.{accepted, jump_to}
 use Rattle.track.specs.declared.Track.{Track}
 use Rattle.track.specs.declared.number.Place.{Place}
-use borrow.Author.Rules.{rules}
 use lib.IntN.{ℤ}
 use mathlib.Core.Path.{◌∙◌, ap}
 use Rattle.track.proofs.Track.jump.Goals as goal

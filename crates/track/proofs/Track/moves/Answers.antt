@@ -1,5 +1,4 @@
 use Rattle.track.specs.Leap.{moves}
-use borrow.Author.Rules.{rules}
 use mathlib.Core.Path.{refl}
 use native.Mathlib.Omega.{arith}
 use Rattle.track.proofs.Track.moves.Goals as goal

@@ -1,6 +1,5 @@
 use Rattle.track.proofs.Arrivals.{arrival-inside}
 use Rattle.track.specs.Stride.{next, phase}
-use borrow.Author.Rules.{rules}
 use mathlib.Core.Path.{◌∙◌, ap}
 use native.Mathlib.Omega.{arith}
 use Rattle.track.proofs.Track.next.Goals as goal

@@ -1,5 +1,4 @@
 use Rattle.track.proofs.Exits.{passes-far, passes-near}
-use borrow.Author.Rules.{rules}
 use Rattle.track.proofs.Track.passes_at.Goals as goal
 
 pub returns-then-l-far : goal.returns-then-l-far

@@ -1,5 +1,4 @@
 use Rattle.track.proofs.Exits.{place-back, place-fore}
-use borrow.Author.Rules.{rules}
 use Rattle.track.proofs.Track.place.Goals as goal
 
 pub returns-then-self-eq-BACKWARD : goal.returns-then-self-eq-BACKWARD

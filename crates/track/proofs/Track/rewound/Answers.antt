@@ -1,5 +1,4 @@
 use Rattle.track.proofs.Exits.{rewound-is}
-use borrow.Author.Rules.{rules}
 use Rattle.track.proofs.Track.rewound.Goals as goal
 
 pub returns : goal.returns

@@ -1,6 +1,5 @@
 use Rattle.track.proofs.Exits.{runs-ever, runs-long, runs-short}
 use Rattle.track.proofs.Strides.{stop-later}
-use borrow.Author.Rules.{rules}
 use native.Mathlib.Omega.{arith}
 use Rattle.track.proofs.Track.running.Goals as goal
 

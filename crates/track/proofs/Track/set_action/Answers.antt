@@ -2,12 +2,11 @@ use Prim.Native.Nat.{◌≤◌}
 use Rattle.track.proofs.Numbers.{told, natural-in, natural-out, natural-take}
 use Rattle.track.specs.Number.{natural_of}
 use Rattle.track.specs.Setup.{action_set}
-use Rattle.track.specs.declared.number.Natural.TheVariants.{In}
 use Rattle.track.specs.declared.number.Natural.{Natural}
 use borrow.Author.Rules.{rules}
 use borrow.Author.Tests.{eq-eqb, ne_eqb}
 use lib.IntN.{ℤ}
-use mathlib.Core.Path.{◌≡◌, ◌∙◌}
+use mathlib.Core.Path.{◌∙◌}
 use mir.Facts.{Fits-below}
 use native.Mathlib.Omega.{arith}
 use Rattle.track.proofs.Track.set_action.Goals as goal

@@ -2,7 +2,6 @@ use Rattle.track.proofs.Numbers.{told, natural-in, natural-out, natural-take}
 use Rattle.track.specs.Number.{natural_of}
 use Rattle.track.specs.Setup.{accepted, direction_set}
 use Rattle.track.specs.declared.number.Natural.{Natural}
-use borrow.Author.Rules.{rules}
 use lib.IntN.{ℤ}
 use mir.Facts.{Fits-below}
 use mathlib.Core.Path.{◌∙◌, ap}

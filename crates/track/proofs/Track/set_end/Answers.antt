@@ -1,4 +1,3 @@
-use borrow.Author.Rules.{rules}
 use Rattle.track.proofs.Numbers.{told, place_out, place-take}
 use Rattle.track.proofs.Tests.{cond_yes, cond_no}
 use Rattle.track.specs.Number.{coordinate_of, within}

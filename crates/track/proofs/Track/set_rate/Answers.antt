@@ -2,12 +2,10 @@ use Rattle.track.proofs.Numbers.{told, natural-in, natural-out, natural-take}
 use Rattle.track.specs.Number.{natural_of}
 use Rattle.track.specs.Rule.{rate_most}
 use Rattle.track.specs.Setup.{rate_set}
-use Rattle.track.specs.declared.number.Natural.TheVariants.{In}
 use Rattle.track.specs.declared.number.Natural.{Natural}
-use borrow.Author.Rules.{rules}
 use borrow.Author.Tests.{lt-ltb, le-ltb}
 use lib.IntN.{ℤ}
-use mathlib.Core.Path.{◌≡◌, ◌∙◌}
+use mathlib.Core.Path.{◌∙◌}
 use mir.Facts.{Fits-below}
 use Rattle.track.proofs.Track.set_rate.Goals as goal
 

@@ -1,5 +1,4 @@
 use Rattle.track.proofs.Checks.{sound-late, sound-valid}
-use borrow.Author.Rules.{rules}
 use Rattle.track.proofs.Track.sound.Goals as goal
 
 pub returns-then-clock-self : goal.returns-then-clock-self

@@ -1,5 +1,4 @@
 use Rattle.track.proofs.Exits.{step-stops, step_waits, step-plays}
-use borrow.Author.Rules.{rules}
 use Rattle.track.proofs.Track.step.Goals as goal
 
 pub returns-then-stops : goal.returns-then-stops

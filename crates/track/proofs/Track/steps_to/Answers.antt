@@ -1,7 +1,6 @@
 use Rattle.track.proofs.Arrivals.{next_small}
 use Rattle.track.proofs.Exits.{steps_up, steps-round}
 use Rattle.track.proofs.Strides.{phase-small}
-use borrow.Author.Rules.{rules}
 use native.Mathlib.Omega.{arith}
 use Rattle.track.proofs.Track.steps_to.Goals as goal
 

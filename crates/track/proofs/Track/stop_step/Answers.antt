@@ -1,7 +1,6 @@
 use Prim.Native.Nat.{◌-◌, ◌≤◌}
 use Rattle.track.proofs.Arrivals.{next_small}
 use Rattle.track.proofs.Exits.{stop-later, stop-first}
-use borrow.Author.Rules.{rules}
 use native.Mathlib.Nat.{mul-le-mul}
 use native.Mathlib.Omega.{arith}
 use Rattle.track.proofs.Track.stop_step.Goals as goal

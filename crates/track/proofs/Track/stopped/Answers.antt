@@ -1,6 +1,5 @@
 use Rattle.track.specs.Rule.{STOPPED, moved}
 use Rattle.track.specs.declared.Track.{Track}
-use borrow.Author.Rules.{rules}
 use mathlib.Core.Path.{ap}
 use Rattle.track.proofs.Track.stopped.Goals as goal
 

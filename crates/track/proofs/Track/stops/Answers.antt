@@ -1,5 +1,4 @@
 use Rattle.track.proofs.Exits.{stops-near, stops-repeat, stops-last}
-use borrow.Author.Rules.{rules}
 use Rattle.track.proofs.Track.stops.Goals as goal
 
 pub returns-then-l-far : goal.returns-then-l-far

@@ -1,7 +1,6 @@
 use Prim.Native.Nat.{◌+◌, ◌-◌}
 use Rattle.track.proofs.Arrivals.{next_small}
 use Rattle.track.proofs.Exits.{stride-none, stride-some}
-use borrow.Author.Rules.{rules}
 use native.Mathlib.Nat.{mod-lt, div-le_self}
 use native.Mathlib.Omega.{arith}
 use Rattle.track.proofs.Track.stride.Goals as goal

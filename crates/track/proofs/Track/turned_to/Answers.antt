@@ -1,5 +1,4 @@
 use Rattle.track.proofs.Exits.{turned-to-rewound, turned-to-due, turned-to-alone}
-use borrow.Author.Rules.{rules}
 use mathlib.Core.Path.{refl}
 use Rattle.track.proofs.Track.turned_to.Goals as goal
 

@@ -1,7 +1,5 @@
 use Rattle.track.proofs.Checks.{valid-of, valid-not-ordered, valid-not-cells, valid-rated}
 use Rattle.track.proofs.Tests.{refuted}
-use borrow.Author.Rules.{rules}
-use borrow.Author.Tests.{not-true, not-false}
 use mathlib.Core.Path.{◌∙◌, sym}
 use native.Mathlib.Omega.{arith}
 use Rattle.track.proofs.Track.valid.Goals as goal

@@ -1,6 +1,5 @@
 use Rattle.track.proofs.Checks.{cells-number, cells-event, cells_of, cells_is}
 use Rattle.track.proofs.Tests.{refuted}
-use borrow.Author.Rules.{rules}
 use native.Mathlib.Omega.{arith}
 use Rattle.track.proofs.check.cells_kept.Goals as goal
 

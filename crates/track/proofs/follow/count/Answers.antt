@@ -1,8 +1,6 @@
-use Prim.Native.Nat.{◌+◌, ◌-◌, ◌≤◌}
-use lib.ListN.{length, drop}
-use mathlib.Core.Path.{◌≡◌, refl, sym, ◌∙◌}
+use lib.ListN.{length}
+use mathlib.Core.Path.{◌≡◌, ◌∙◌}
 use native.Mathlib.Omega.{arith}
-use Rattle.track.specs.Follow.{up_to_zero}
 use Rattle.track.proofs.Follows.{count_next, count_none, count-end}
 use borrow.Author.Rules.{rules}
 use Rattle.track.proofs.follow.count.Goals as goal

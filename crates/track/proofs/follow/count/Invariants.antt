@@ -1,10 +1,7 @@
 use Prim.Native.Nat.{◌+◌, ◌-◌, ◌≤◌}
 use lib.ListN.{length, drop}
-use mathlib.Core.Path.{◌≡◌, refl, sym, ◌∙◌}
-use native.Mathlib.Omega.{arith}
+use mathlib.Core.Path.{◌≡◌}
 use Rattle.track.specs.Follow.{up_to_zero}
-use Rattle.track.proofs.Follows.{count_next, count_none, count-end}
-use borrow.Author.Rules.{rules}
 use Rattle.track.proofs.follow.count.Given as goal
 
 abbrev pub invariant-loop-k : goal.invariant-loop-k

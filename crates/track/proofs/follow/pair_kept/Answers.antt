@@ -1,5 +1,4 @@
 use Rattle.track.proofs.Follows.{pair-low, pair-high, pair-none, pair-event}
-use borrow.Author.Rules.{rules}
 use Rattle.track.proofs.follow.pair_kept.Goals as goal
 
 pub returns-then-threshold-low : goal.returns-then-threshold-low

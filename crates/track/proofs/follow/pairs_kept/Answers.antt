@@ -1,9 +1,6 @@
-use Prim.Native.Nat.{◌+◌, ◌-◌, ◌≤◌}
-use lib.ListN.{length, drop}
+use lib.ListN.{length}
 use mathlib.Core.Path.{◌≡◌, refl, ◌∙◌}
 use native.Mathlib.Omega.{arith}
-use borrow.Author.Tests.{not-true, not-false}
-use Rattle.track.specs.Follow.{pairs_test}
 use Rattle.track.proofs.Follows.{pairs_next, pairs-bad, pairs-none, pairs_end}
 use borrow.Author.Rules.{rules}
 use Rattle.track.proofs.follow.pairs_kept.Goals as goal

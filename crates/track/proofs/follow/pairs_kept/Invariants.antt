@@ -1,11 +1,7 @@
-use Prim.Native.Nat.{◌+◌, ◌-◌, ◌≤◌}
-use lib.ListN.{length, drop}
-use mathlib.Core.Path.{◌≡◌, refl, ◌∙◌}
-use native.Mathlib.Omega.{arith}
-use borrow.Author.Tests.{not-true, not-false}
+use Prim.Native.Nat.{◌-◌, ◌≤◌}
+use lib.ListN.{drop}
+use mathlib.Core.Path.{◌≡◌}
 use Rattle.track.specs.Follow.{pairs_test}
-use Rattle.track.proofs.Follows.{pairs_next, pairs-bad, pairs-none, pairs_end}
-use borrow.Author.Rules.{rules}
 use Rattle.track.proofs.follow.pairs_kept.Given as goal
 
 abbrev pub invariant-loop-k : goal.invariant-loop-k

@@ -1,9 +1,6 @@
-use Prim.Native.Nat.{◌-◌}
-use lib.ListN.{length, drop}
-use mathlib.Core.Bool.{◌&&◌}
+use lib.ListN.{length}
 use mathlib.Core.Path.{◌≡◌, refl, ◌∙◌}
 use native.Mathlib.Omega.{arith}
-use Rattle.track.specs.Follow.{zeros_test}
 use Rattle.track.proofs.Follows.{zeros-next, zeros-first, zeros-second, zeros-end}
 use borrow.Author.Rules.{rules}
 use Rattle.track.proofs.follow.zeros_from.Goals as goal

@@ -1,11 +1,8 @@
 use Prim.Native.Nat.{◌-◌}
-use lib.ListN.{length, drop}
+use lib.ListN.{drop}
 use mathlib.Core.Bool.{◌&&◌}
-use mathlib.Core.Path.{◌≡◌, refl, ◌∙◌}
-use native.Mathlib.Omega.{arith}
+use mathlib.Core.Path.{◌≡◌}
 use Rattle.track.specs.Follow.{zeros_test}
-use Rattle.track.proofs.Follows.{zeros-next, zeros-first, zeros-second, zeros-end}
-use borrow.Author.Rules.{rules}
 use Rattle.track.proofs.follow.zeros_from.Given as goal
 
 abbrev pub invariant-loop-k : goal.invariant-loop-k

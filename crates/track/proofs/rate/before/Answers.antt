@@ -1,6 +1,5 @@
 use Prim.Native.Nat.{suc, ◌+◌, ◌*◌, ◌-◌, ◌/◌, ◌≤◌}
 use Rattle.track.specs.Rule.{clock_end, rate_most}
-use borrow.Author.Rules.{rules}
 use mathlib.Core.Path.{◌≡◌, ap}
 use mir.Facts.{Fits-below}
 use native.Mathlib.Nat.{add-mul, mul-le-mul}

@@ -1,6 +1,5 @@
 use Rattle.track.specs.Setup.{permits}
 use Rattle.track.specs.declared.setup.Change.{Change}
-use borrow.Author.Rules.{rules}
 use mathlib.Core.Path.{◌∙◌, sym, ap}
 use Rattle.track.proofs.setup.permits.Goals as goal
 

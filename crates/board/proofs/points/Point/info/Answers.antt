@@ -1,4 +1,3 @@
-use borrow.Author.Rules.{rules}
 use native.Mathlib.Omega.{arith}
 use Rattle.board.specs.Points.{info_of}
 use Rattle.board.proofs.points.Point.info.Goals as goal

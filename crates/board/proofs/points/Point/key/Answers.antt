@@ -1,5 +1,4 @@
 use Rattle.board.specs.Points.{key_of}
-use borrow.Author.Rules.{rules}
 use mathlib.Core.Path.{refl}
 use Rattle.board.proofs.points.Point.key.Goals as goal
 

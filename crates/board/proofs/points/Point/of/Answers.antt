@@ -1,5 +1,4 @@
 use Rattle.board.specs.Points.{point_of}
-use borrow.Author.Rules.{rules}
 use mathlib.Core.Path.{refl}
 use Rattle.board.proofs.points.Point.of.Goals as goal
 

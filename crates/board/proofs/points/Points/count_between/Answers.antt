@@ -1,7 +1,6 @@
 use Prim.Native.Nat.{◌+◌}
 use Rattle.board.proofs.points.Ranges.{count_none, count-ranks}
 use Rattle.board.specs.Points.{count_of, between}
-use borrow.Author.Rules.{rules}
 use lib.ListN.{take}
 use mathlib.Core.Path.{◌≡◌, sym}
 use native.Mathlib.Omega.{arith}

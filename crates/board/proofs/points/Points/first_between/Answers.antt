@@ -1,6 +1,5 @@
 use Rattle.board.proofs.points.Keys.{row_from}
 use Rattle.board.proofs.points.Ranges.{first-end, first-over, first-here}
-use borrow.Author.Rules.{rules}
 use native.Mathlib.Omega.{arith}
 use Rattle.board.proofs.points.Points.first_between.Goals as goal
 

@@ -1,6 +1,5 @@
 use Prim.Native.Nat.{◌+◌, ◌-◌, ◌/◌}
-use Rattle.board.proofs.points.Keys.{Bracket, bracket-start, bracket-up, bracket-down, bracket-done}
-use borrow.Author.Rules.{rules}
+use Rattle.board.proofs.points.Keys.{bracket-start, bracket-up, bracket-down, bracket-done}
 use native.Mathlib.Omega.{arith}
 use Rattle.board.proofs.points.Points.first_from.Goals as goal
 

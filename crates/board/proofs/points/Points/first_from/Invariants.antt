@@ -1,7 +1,5 @@
-use Prim.Native.Nat.{◌+◌, ◌-◌, ◌/◌}
-use Rattle.board.proofs.points.Keys.{Bracket, bracket-start, bracket-up, bracket-down, bracket-done}
-use borrow.Author.Rules.{rules}
-use native.Mathlib.Omega.{arith}
+use Prim.Native.Nat.{◌-◌}
+use Rattle.board.proofs.points.Keys.{Bracket}
 use Rattle.board.proofs.points.Points.first_from.Given as goal
 
 abbrev pub invariant-loop-low : goal.invariant-loop-low

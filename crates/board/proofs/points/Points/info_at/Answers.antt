@@ -1,5 +1,4 @@
 use Rattle.board.proofs.points.Table.{info-found, info-absent}
-use borrow.Author.Rules.{rules}
 use native.Mathlib.Omega.{arith}
 use Rattle.board.proofs.points.Points.info_at.Goals as goal
 

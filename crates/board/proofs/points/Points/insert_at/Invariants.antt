@@ -1,11 +1,7 @@
 use Prim.Native.Nat.{suc, ◌+◌, ◌-◌, ◌≤◌}
-use Rattle.board.proofs.points.Rows.{insert-step, insert-done}
 use Rattle.board.specs.Points.{point_most, insert_at}
-use borrow.Author.Rules.{rules}
-use lib.ListN.{length, drop, length-set}
-use lib.Seq.{drop-set-lt}
-use mathlib.Core.Path.{◌≡◌, refl, ◌∙◌}
-use native.Mathlib.Omega.{arith}
+use lib.ListN.{length, drop}
+use mathlib.Core.Path.{◌≡◌}
 use Rattle.board.proofs.points.Points.insert_at.Given as goal
 
 abbrev pub invariant-loop-j : goal.invariant-loop-j

@@ -1,6 +1,5 @@
 use Rattle.board.proofs.points.Keys.{row-le}
 use Rattle.board.proofs.points.Ranges.{last_end, last_under, last-here}
-use borrow.Author.Rules.{rules}
 use native.Mathlib.Omega.{arith}
 use Rattle.board.proofs.points.Points.last_between.Goals as goal
 

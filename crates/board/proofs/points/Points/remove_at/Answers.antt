@@ -1,10 +1,9 @@
-use Prim.Native.Nat.{◌+◌, ◌-◌, ◌≤◌}
+use Prim.Native.Nat.{◌+◌, ◌-◌}
 use Rattle.board.proofs.points.Rows.{remove-step, remove-done}
-use Rattle.board.specs.Points.{point_most, remove_at}
 use borrow.Author.Rules.{rules}
-use lib.ListN.{length, drop, get_or, length-set}
+use lib.ListN.{get_or, length-set}
 use lib.Seq.{drop-set-lt}
-use mathlib.Core.Path.{◌≡◌, refl, ◌∙◌}
+use mathlib.Core.Path.{refl, ◌∙◌}
 use native.Mathlib.Omega.{arith}
 use Rattle.board.proofs.points.Points.remove_at.Goals as goal
 
@@ -13,11 +12,11 @@ loop-j-init c = (c.requires.2, search rules, refl, refl)
 
 pub loop-j-preserved : goal.loop-j-preserved
 loop-j-preserved c = (
-      simp length-set c.loop-j.invariant.0,
-      search rules,
-      remove-step c.loop-j.row c.loop-j.j (omega arith) ∙ c.loop-j.invariant.2,
-      drop-set-lt (c.args.n - 1) c.loop-j.row c.loop-j.j (get_or c.loop-j.row (c.loop-j.j + 1) 0) (omega arith) ∙ c.loop-j.invariant.3,
-    )
+  simp length-set c.loop-j.invariant.0,
+  search rules,
+  remove-step c.loop-j.row c.loop-j.j (omega arith) ∙ c.loop-j.invariant.2,
+  drop-set-lt (c.args.n - 1) c.loop-j.row c.loop-j.j (get_or c.loop-j.row (c.loop-j.j + 1) 0) (omega arith) ∙ c.loop-j.invariant.3,
+)
 
 pub returns : goal.returns
-returns c = record { row_len = c.loop-j.invariant.0; row_after = remove-done c.loop-j.row c.args.row.now c.args.n c.args.at c.loop-j.j (omega arith) (omega arith) (omega arith) c.loop-j.invariant.2 c.loop-j.invariant.3; }
+returns c = record { row_len = c.loop-j.invariant.0; row_after = remove-done c.loop-j.row c.args.row.now c.args.n c.args.at c.loop-j.j (omega arith) (omega arith) (omega arith) c.loop-j.invariant.2 c.loop-j.invariant.3 }

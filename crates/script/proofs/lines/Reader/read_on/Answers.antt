@@ -1,7 +1,7 @@
-use Prim.Native.Nat.{ℕ, ◌+◌, ◌-◌, ◌≤◌}
+use Prim.Native.Nat.{ℕ, ◌+◌}
 use Rattle.script.proofs.lines.Pieces.{in-ended, after-ended, in-more, after_more, in-done, after-done}
-use Rattle.script.specs.Lines.{kept_by, lines_in, open_after}
-use lib.ListN.{length, take, drop}
+use Rattle.script.specs.Lines.{lines_in, open_after}
+use lib.ListN.{take, drop}
 use mathlib.Core.List.{List, [], ◌∷◌}
 use mathlib.Core.Path.{◌≡◌, refl, sym, ap, ◌∙◌}
 use native.Mathlib.Omega.{arith}
@@ -26,14 +26,13 @@ returns-then-b-eq10 c = let k = take c.loop-i.n c.loop-i.reader.bytes in
     }
 
 pub loop-i-preserved : goal.loop-i-preserved
-loop-i-preserved c = let k = take c.loop-i.n c.loop-i.reader.bytes in
-    (
-      omega arith,
-      c.put-n.ensures.1,
-      ap (λ (x : List ℕ). lines_in x (drop (c.loop-i.i + 1) c.args.piece.now)) c.put-n.ensures.0 ∙ sym (in-more k c.args.piece.now c.loop-i.i (omega arith) c.if-b-eq10.false) ∙ c.loop-i.invariant.2,
-      ap (λ (x : List ℕ). open_after x (drop (c.loop-i.i + 1) c.args.piece.now)) c.put-n.ensures.0 ∙ sym (after_more k c.args.piece.now c.loop-i.i (omega arith) c.if-b-eq10.false) ∙ c.loop-i.invariant.3,
-      c.loop-i.invariant.4,
-    )
+loop-i-preserved c = let k = take c.loop-i.n c.loop-i.reader.bytes in (
+  omega arith,
+  c.put-n.ensures.1,
+  ap (λ (x : List ℕ). lines_in x (drop (c.loop-i.i + 1) c.args.piece.now)) c.put-n.ensures.0 ∙ sym (in-more k c.args.piece.now c.loop-i.i (omega arith) c.if-b-eq10.false) ∙ c.loop-i.invariant.2,
+  ap (λ (x : List ℕ). open_after x (drop (c.loop-i.i + 1) c.args.piece.now)) c.put-n.ensures.0 ∙ sym (after_more k c.args.piece.now c.loop-i.i (omega arith) c.if-b-eq10.false) ∙ c.loop-i.invariant.3,
+  c.loop-i.invariant.4,
+)
 
 pub returns : goal.returns
 returns c = let k = take c.loop-i.n c.loop-i.reader.bytes in

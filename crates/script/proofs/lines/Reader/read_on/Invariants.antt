@@ -1,11 +1,7 @@
-use Prim.Native.Nat.{ℕ, ◌+◌, ◌-◌, ◌≤◌}
-use Rattle.script.proofs.lines.Pieces.{in-ended, after-ended, in-more, after_more, in-done, after-done}
+use Prim.Native.Nat.{◌-◌, ◌≤◌}
 use Rattle.script.specs.Lines.{kept_by, lines_in, open_after}
 use lib.ListN.{length, take, drop}
-use mathlib.Core.List.{List, [], ◌∷◌}
-use mathlib.Core.Path.{◌≡◌, refl, sym, ap, ◌∙◌}
-use native.Mathlib.Omega.{arith}
-use borrow.Author.Rules.{rules}
+use mathlib.Core.Path.{◌≡◌}
 use Rattle.script.proofs.lines.Reader.read_on.Given as goal
 
 abbrev pub invariant-loop-i : goal.invariant-loop-i

@@ -1,5 +1,4 @@
 use Rattle.script.proofs.text.Written.{adds-both}
-use borrow.Author.Rules.{rules}
 use Rattle.script.specs.Text.{digits_most}
 use Rattle.script.proofs.text.Out.number.Goals as goal
 

@@ -1,6 +1,5 @@
 use Rattle.script.proofs.text.Written.{adds-low, adds-high, adds-wraps}
 use native.Mathlib.Omega.{arith}
-use borrow.Author.Rules.{rules}
 use Rattle.script.proofs.text.Out.position.Goals as goal
 
 pub returns-then-k-lt1000000 : goal.returns-then-k-lt1000000

@@ -1,9 +1,6 @@
-use Prim.Native.Nat.{◌≤◌, ◌+◌, ◌-◌}
 use Rattle.script.proofs.text.Written.{push-next, push-end, put_next}
-use Rattle.script.specs.Text.{line_room, text_of}
-use lib.ListN.{length, take, drop, length-set}
-use mathlib.Core.List.{◌++◌}
-use mathlib.Core.Path.{◌≡◌, refl, ◌∙◌}
+use lib.ListN.{take, length-set}
+use mathlib.Core.Path.{refl, ◌∙◌}
 use native.Mathlib.Omega.{arith}
 use borrow.Author.Rules.{rules}
 use Rattle.script.proofs.text.Out.push_from.Goals as goal
@@ -13,13 +10,13 @@ loop-i-init c = (omega arith, omega arith, refl, omega arith, search rules, refl
 
 pub loop-i-preserved : goal.loop-i-preserved
 loop-i-preserved c = (
-      omega arith,
-      omega arith,
-      omega arith,
-      omega arith,
-      length-set c.loop-i.o.bytes c.loop-i.n _ ∙ c.loop-i.invariant.4,
-      push-next (take c.loop-i.n c.loop-i.o.bytes) _ c.args.s.now _ c.loop-i.i (omega arith) c.loop-i.invariant.5 (put_next c.loop-i.o.bytes c.loop-i.n _ (omega arith)),
-    )
+  omega arith,
+  omega arith,
+  omega arith,
+  omega arith,
+  length-set c.loop-i.o.bytes c.loop-i.n _ ∙ c.loop-i.invariant.4,
+  push-next (take c.loop-i.n c.loop-i.o.bytes) _ c.args.s.now _ c.loop-i.i (omega arith) c.loop-i.invariant.5 (put_next c.loop-i.o.bytes c.loop-i.n _ (omega arith)),
+)
 
 pub returns : goal.returns
 returns c = record { adds = push-end (take c.loop-i.n c.loop-i.o.bytes) c.args.s.now c.loop-i.i (omega arith) ∙ c.loop-i.invariant.5; few = omega arith }

@@ -1,11 +1,8 @@
 use Prim.Native.Nat.{◌≤◌, ◌+◌, ◌-◌}
-use Rattle.script.proofs.text.Written.{push-next, push-end, put_next}
 use Rattle.script.specs.Text.{line_room, text_of}
-use lib.ListN.{length, take, drop, length-set}
+use lib.ListN.{length, take, drop}
 use mathlib.Core.List.{◌++◌}
-use mathlib.Core.Path.{◌≡◌, refl, ◌∙◌}
-use native.Mathlib.Omega.{arith}
-use borrow.Author.Rules.{rules}
+use mathlib.Core.Path.{◌≡◌}
 use Rattle.script.proofs.text.Out.push_from.Given as goal
 
 abbrev pub invariant-loop-i : goal.invariant-loop-i

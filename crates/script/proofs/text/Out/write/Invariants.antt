@@ -1,12 +1,8 @@
-use Prim.Native.Nat.{ℕ, ◌≤◌, ◌+◌, ◌-◌}
-use Rattle.script.proofs.text.Written.{wrote-next, wrote_none, wrote-all}
+use Prim.Native.Nat.{◌≤◌, ◌+◌, ◌-◌}
 use Rattle.script.specs.Text.{line_room}
-use borrow.Author.Rules.{rules}
-use lib.ListN.{length, take, length-set}
-use mathlib.Core.List.{List, ◌++◌}
-use mathlib.Core.Logic.{inl, inr}
-use mathlib.Core.Path.{◌≡◌, refl, ap, ◌∙◌}
-use native.Mathlib.Omega.{arith}
+use lib.ListN.{length, take}
+use mathlib.Core.List.{◌++◌}
+use mathlib.Core.Path.{◌≡◌}
 use Rattle.script.proofs.text.Out.write.Given as goal
 
 abbrev pub invariant-loop-i : goal.invariant-loop-i
