@@ -120,9 +120,9 @@ pub data ModeCall : (ℤ → Call) → Type 0 where
   resumes : ModeCall call.Resume
   stops : ModeCall call.Stop
 
--- A list of calls: each mode call and each advance by what its function over the lent board promises (`promised`; the function's own
--- proof shows that its code keeps it), any call by the contract of the door or of its function by value. A row that is no call does not
--- count as a call of the list.
+-- A list of calls: each mode call and each advance by what its function over the lent board promises (`promised`, which is what the
+-- function's contract tells: proofs/Lent), any call by the contract of the door or of its function by value. A row that is no call does
+-- not count as a call of the list.
 pub data Lending : List Call → World Board → List Reply → World Board → Type 0 where
   ended : {w : World Board} → Lending [] w [] w
   moded : {calls : ℤ → Call} → ModeCall calls → (i : ℤ) (number : ℕ) {cs : List Call} {w v u : World Board} {a : Reply} {xs : List Reply}

@@ -16,6 +16,7 @@ pub enum Number {
 }
 
 // The number that the digits of a text from `at` on are.
+#[tactic(auto, using(crate::proofs::number::Digits::zeros))]
 fn read_size(text: &[u8], at: usize) -> Size
     requires { at ≤ length text.now }
     ensures { result ≡ size_of (drop at text.now) }

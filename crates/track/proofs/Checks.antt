@@ -16,7 +16,7 @@ use borrow.Author.Tests.{eqb-true, ltb-true, leb-true, lt-ltb, le-leb, lt-leb, e
 use Rattle.track.specs.declared.Track.{Track}
 use Rattle.track.specs.declared.Ticks.{Ticks}
 use Rattle.track.specs.Rule.{every, Ordered, ordered_test, Cells, events_test, cells_test, Rated, rated_test, Valid, valid_test, Sound, sound_test, STOPPED, WAITING, BACKWARD, REPEATING, DUE, loops_most, cell_count, cell_most, rate_most, coordinate_last}
-use Rattle.track.proofs.Tests.{every_of, every-is, both, both_is}
+use Rattle.track.proofs.Tests.{every_of, every-is, both, both_is, refuted}
 
 module _ (min max start end position : ℕ) where
   tests : List Bool
@@ -188,6 +188,9 @@ module _ (t : Track) where
   unfolding valid_test every
   valid-not-ordered h = simp h
 
+  pub valid-not-repeat : REPEATING < t.repeat → false ≡ valid_test t
+  valid-not-repeat h = refuted _ (λ g. omega (arith, valid-of g))
+
   pub valid-not-cells : {o : Bool} → o ≡ cells_test t.actions → o ≡ false → false ≡ valid_test t
   unfolding valid_test every
   valid-not-cells e h = simp (← e, h, and-false)
@@ -206,3 +209,6 @@ module _ (t : Track) where
   pub sound-valid : {clock : Ticks} {r : Bool} → t.passes.0 ≤ clock.0 → r ≡ valid_test t → r ≡ sound_test t clock
   unfolding sound_test
   sound-valid {clock} h e = e ∙ simp (le-leb t.passes.0 clock.0 h, and-true)
+
+-- what the check may use where a flag is above 1
+pub ruleset flags = (valid-not-repeat)

@@ -203,3 +203,6 @@ module _ (t : Track) (c : Change) {b : Bool} (e : b ≡ permits c t.mode) where
   pub changed-by : b ≡ true → {r : Changed} {d : Change} → c ≡ d → r ≡ set_by t d → r ≡ changed_by t c
   unfolding changed_by
   changed-by h k q = q ∙ ap (set_by t) (sym k) ∙ simp (← e, h)
+
+-- what the check may use where a track is turned as it is
+pub ruleset closing = (closes-same)

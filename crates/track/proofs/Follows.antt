@@ -368,3 +368,6 @@ module _ (t m : Track) where
   unfolding judged
   judged-both h g p q e b =
       b ∙ ap (band_of (thresholds_of t)) (e ∙ (λ i. apart (p i) (q i))) ∙ simp (ne_eqb _ _ h, ne_eqb _ _ g)
+
+-- what the check may use where a follower's band is none, or a lent one's can't be
+pub ruleset judging = (judged-stopped, follower-early)

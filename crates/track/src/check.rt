@@ -75,6 +75,7 @@ fn rated(steps: u16, ticks: u16, remainder: u32, mode: u8) -> bool
 
 impl Track {
     // Every range and rule of a track by itself.
+    #[tactic(auto, using(crate::proofs::Checks::flags))]
     pub fn valid(self) -> bool
         ensures { result ≡ valid_test self }
     {

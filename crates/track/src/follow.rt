@@ -89,6 +89,7 @@ fn count(row: [u32; Track::THRESHOLDS]) -> usize
 
 impl Track {
     // Every range and rule of a follower by itself: its pairs, and a band that is none or one of them, none at clock 0.
+    #[tactic(auto, using(crate::proofs::Follows::judging))]
     pub fn follower_kept(self, clock: Ticks) -> bool
         ensures { result ≡ follower_test self clock }
     {
@@ -151,6 +152,7 @@ impl Track {
     }
 
     // The band of a follower of this master: none if either is STOPPED.
+    #[tactic(auto, using(crate::proofs::Follows::judging))]
     pub fn judged(self, master: Track) -> u8
         requires valid { Valid self }
         requires valid_2 { Valid master }

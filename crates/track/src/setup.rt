@@ -177,6 +177,7 @@ impl Track {
     }
 
     // Whether turning it so flips a PAUSED, visited track that stands on its new far position: its next arrival then closes a pass there.
+    #[tactic(auto, using(crate::proofs::Exits::closing))]
     fn closes(self, direction: u8) -> bool
         ensures { result ≡ closes self direction }
     {

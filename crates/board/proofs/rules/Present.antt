@@ -32,6 +32,10 @@ found_in_lem present track e = subst (Present? present) e (go (natural_of track 
     go (natural.In i) = at i (is_present present i) refl
     go natural.Outside = tt
 
+-- and has a number below 16
+pub found-below : (present : ℕ) (track : ℤ) {i : ℕ} → found_in present track ≡ natural.In i → i < track_count
+found-below present track e = present-small present _ (found_in_lem present track e)
+
 -- a word of n bits has room for a bit that is not set
 grows : (i n word : ℕ) → i < n → word < 2 ^ n → word / 2 ^ i % 2 ≡ 0 → word + 2 ^ i < 2 ^ n
 grows i zero word l h e = absurd (omega arith)

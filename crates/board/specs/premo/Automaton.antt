@@ -2,6 +2,7 @@
 use Rattle.std.specs.Prelude.{ℕ, Bool, true, false, not, ◌&&◌, ◌||◌, ◌≡◌, List, [], ◌∷◌, eqb, leb}
 use Rattle.track.specs.Rule.{STOPPED, PLAYING, PAUSED, WAITING}
 
+-- 001's names, with underscores for its capitals: its doPLAY is do_play, its donePlay done_play, its modeTransitions mode_transitions.
 -- What a track does. By a call or a point's command that the mode grid lets act: do_play, do_pause, do_resume, do_stop. By itself:
 -- do_wait (a wait flag takes it to WAITING), done_play (it stops at far). jump: an accepted jump. exc: a refused call or command.
 pub data Act : Type 0 where

@@ -116,3 +116,6 @@ module _ (s : List ℕ) (r : Size) where
 
   pub number-plus-none : (length s ≡ 0 → ⊥) → (get_or s 0 0 ≡ 45 → ⊥) → r ≡ size_of (drop 0 s) → r ≡ NoSize → NoNumber ≡ number_of s
   number-plus-none h e q p = sym (no_minus h e ∙ ap positive (sym q ∙ p))
+
+-- what the check may use where a number begins with 0
+pub ruleset zeros = (size-zero, size-more)

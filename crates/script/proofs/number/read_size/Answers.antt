@@ -6,12 +6,6 @@ use Rattle.script.proofs.number.read_size.Goals as goal
 pub returns-then-text-at : goal.returns-then-text-at
 returns-then-text-at c = size_none _ _ c.if-text-at.true
 
-pub returns-then-text-at-eq1 : goal.returns-then-text-at-eq1
-returns-then-text-at-eq1 c = size-zero c.args.text.now c.args.at (omega arith) c.if-text-at-eq48.true c.if-text-at-eq1.true
-
-pub returns-then-text-at-eq48 : goal.returns-then-text-at-eq48
-returns-then-text-at-eq48 c = size-more c.args.text.now c.args.at (omega arith) c.if-text-at-eq48.true c.if-text-at-eq1.false
-
 pub loop-i-init : goal.loop-i-init
 loop-i-init c = (omega arith, size-start c.args.text.now c.args.at (omega arith) c.if-text-at-eq48.false)
 

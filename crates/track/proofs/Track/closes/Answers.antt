@@ -1,9 +1,6 @@
 use Rattle.track.proofs.Exits.{closes-same, closes-mode, closes-due, closes-far}
 use Rattle.track.proofs.Track.closes.Goals as goal
 
-pub returns-then-direction-self : goal.returns-then-direction-self
-returns-then-direction-self c = closes-same _ _ c.if-direction-self.true
-
 pub returns-then-self-ne-PAUSED : goal.returns-then-self-ne-PAUSED
 returns-then-self-ne-PAUSED c = closes-mode _ _ c.if-direction-self.false c.if-self-ne-PAUSED.true
 

@@ -19,9 +19,6 @@ returns-then-not-pairs_kept c = follower-pairs c.args.self c.args.clock c.pairs_
 pub returns-then-band-eq0 : goal.returns-then-band-eq0
 returns-then-band-eq0 c = follower-none c.args.self c.args.clock (long c.before.before.before) (long-events c.before.before.before) c.pairs_kept.ensures c.if-not-pairs_kept.false c.if-band-eq0.true
 
-pub returns-then-clock-eq0 : goal.returns-then-clock-eq0
-returns-then-clock-eq0 c = follower-early c.args.self c.args.clock c.if-clock-eq0.true c.if-band-eq0.false
-
 pub returns : goal.returns
 returns c = follower-band c.args.self c.args.clock (long c.before.before.before.before.before.before) (long-events c.before.before.before.before.before.before) c.pairs_kept.ensures c.if-not-pairs_kept.false
     c.if-clock-eq0.false c.count.ensures

@@ -1,9 +1,6 @@
 use Rattle.track.proofs.Follows.{judged-stopped, judged-led, judged-both}
 use Rattle.track.proofs.Track.judged.Goals as goal
 
-pub returns-then-self-eq-STOPPED : goal.returns-then-self-eq-STOPPED
-returns-then-self-eq-STOPPED c = judged-stopped c.args.self c.args.master c.if-self-eq-STOPPED.true
-
 pub returns-then-master-eq-STOPPED : goal.returns-then-master-eq-STOPPED
 returns-then-master-eq-STOPPED c = judged-led c.args.self c.args.master c.if-self-eq-STOPPED.false c.if-master-eq-STOPPED.true
 

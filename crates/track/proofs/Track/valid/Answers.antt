@@ -16,9 +16,6 @@ returns-then-self-gt-WAITING c = refuted _ (λ h. omega (arith, valid-of _ h))
 pub returns-then-self-gt-BACKWARD : goal.returns-then-self-gt-BACKWARD
 returns-then-self-gt-BACKWARD c = refuted _ (λ h. omega (arith, valid-of _ h))
 
-pub returns-then-self-gt-REPEATING : goal.returns-then-self-gt-REPEATING
-returns-then-self-gt-REPEATING c = refuted _ (λ h. omega (arith, valid-of _ h))
-
 pub returns-then-self-gt-DUE : goal.returns-then-self-gt-DUE
 returns-then-self-gt-DUE c = refuted _ (λ h. omega (arith, valid-of _ h))
 
@@ -27,6 +24,6 @@ returns-then-not-cells_kept c = valid-not-cells _ c.cells_kept.ensures c.if-not-
 
 pub returns : goal.returns
 returns c = valid-rated _ c.ordered.ensures c.if-not-ordered.false
-    (omega (arith, c.if-self-eq0.false), omega (arith, c.struct_known-1.given)) (omega (arith, c.if-self-gt-WAITING.false))
-    (omega (arith, c.if-self-gt-BACKWARD.false)) (omega (arith, c.if-self-gt-REPEATING.false)) (omega (arith, c.if-self-gt-DUE.false))
+    (omega arith, omega arith) (omega arith)
+    (omega arith) (omega arith) (omega arith)
     c.cells_kept.ensures c.if-not-cells_kept.false c.rated.ensures
