@@ -12,7 +12,7 @@ pub fn folder(name: &str) -> PathBuf {
 pub fn runner() -> PathBuf {
     let path = std::env::var("GRIDSTEP_RUNNER").unwrap_or("../crates/runner/out/runner".into());
     let path = Path::new(env!("CARGO_MANIFEST_DIR")).join(path);
-    assert!(path.is_file(), "no runner at {}: make it by `rt check runner`", path.display());
+    assert!(path.is_file(), "no runner at {}: make it by `rt run` in crates/runner", path.display());
     path
 }
 

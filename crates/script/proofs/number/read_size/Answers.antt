@@ -1,6 +1,6 @@
 use mathlib.Core.Path.{sym, ◌∙◌}
 use native.Mathlib.Omega.{arith}
-use Rattle.script.proofs.number.Digits.{size_none, size-zero, size-more, size-start, size-over, size_low, size-high, size-next, size-done}
+use Rattle.script.proofs.number.Digits.{size_none, size-start, size-over, size_low, size-high, size-next, size-done}
 use Rattle.script.proofs.number.read_size.Goals as goal
 
 pub returns-then-text-at : goal.returns-then-text-at

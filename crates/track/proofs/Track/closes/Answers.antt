@@ -1,4 +1,4 @@
-use Rattle.track.proofs.Exits.{closes-same, closes-mode, closes-due, closes-far}
+use Rattle.track.proofs.Exits.{closes-mode, closes-due, closes-far}
 use Rattle.track.proofs.Track.closes.Goals as goal
 
 pub returns-then-self-ne-PAUSED : goal.returns-then-self-ne-PAUSED

@@ -1,4 +1,4 @@
-use Rattle.track.proofs.Follows.{follower-pairs, follower-none, follower-early, follower-band}
+use Rattle.track.proofs.Follows.{follower-pairs, follower-none, follower-band}
 use borrow.Author.Rules.{rules}
 use lib.ListN.{length}
 use mathlib.Core.Path.{◌≡◌}

@@ -1,4 +1,4 @@
-use Rattle.track.proofs.Follows.{judged-stopped, judged-led, judged-both}
+use Rattle.track.proofs.Follows.{judged-led, judged-both}
 use Rattle.track.proofs.Track.judged.Goals as goal
 
 pub returns-then-master-eq-STOPPED : goal.returns-then-master-eq-STOPPED
