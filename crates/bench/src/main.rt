@@ -6,14 +6,17 @@
 //   51 k p       a record of kind k packed at place p of the log: 0 accepted or the refusal's number, then the log
 //   52 a b       calls a to b of those since code 0 on the board at hand: the number of each, 0 accepted; an
 //                accepted one is undone
+// What can't be printed is lost.
 #![tactic(auto)]
 
-ghost use Rattle.std.specs.Prelude.{◌≤◌, ◌≡◌, length};
+ghost use Rattle.std.specs.Prelude.{◌<◌, ◌≤◌, length};
+ghost use Rattle.bench.specs.declared.TheConstants.{LOG, ROWS};
 
-use crate::poke::{limited, poked};
-use crate::read::{after, begins, find, number_of, read_row};
-use crate::show::{held_records, next, pack_line, refusal, reply, text};
+use crate::poke::{Field, limited};
+use crate::read::numbers;
+use crate::show::{Held, Reply, pack_line, title};
 use board::Board;
+use board::log::Record;
 use board::row::{CALL_WIDTH, REPLY_WIDTH, do_row};
 use std::io::Read;
 
@@ -26,19 +29,165 @@ const INPUT: usize = 65536;
 
 const LOG: usize = 4096;
 
-// Calls that are kept since code 0; those after them take the last one's place.
+// Rows that are kept since code 0; those after them take the last one's place.
 const ROWS: usize = 320;
 
+// What each byte of a fresh log is.
+const FILL: u8 = 165;
+
+// What a line asks for.
 #[derive(Clone, Copy)]
-struct Bench {
-    board: Board,
-    // Bytes of the log.
-    length: usize,
-    // Calls kept.
-    rows: usize,
+enum Step {
+    Fresh,
+    Call,
+    Poke(Field),
+    Records,
+    Pack,
+    Tries,
 }
 
-// Reads until the buffer is full, the input ends or a read fails; how many bytes were read.
+// By the line's code.
+impl From<i64> for Step {
+    fn from(code: i64) -> Step {
+        match code {
+            0 => Step::Fresh,
+            50 => Step::Records,
+            51 => Step::Pack,
+            52 => Step::Tries,
+            _ => Field::try_from(code).map_or(Step::Call, Step::Poke),
+        }
+    }
+}
+
+// The numbers of a line, and the reply where they are a call.
+#[derive(Clone, Copy)]
+struct Row {
+    numbers: [i64; CALL_WIDTH],
+    reply: Reply,
+}
+
+impl Row {
+    // Does the call; the board after it.
+    fn act(&mut self, board: Board, log: &mut [u8]) -> Board {
+        do_row(board, &self.numbers, 0, log, &mut self.reply.0)
+    }
+}
+
+#[derive(Drop)]
+struct Bench {
+    board: Board,
+    // There is no heap, so the log is as long as any, and calls have so many bytes of it.
+    log: [u8; LOG],
+    room: usize,
+    rows: [Row; ROWS],
+    // The row of the line at hand.
+    at: usize,
+    ghost room_in: { room ≤ LOG },
+    ghost at_in: { at < ROWS },
+}
+
+impl Bench {
+    fn new() -> Self {
+        let row = Row {
+            numbers: [0; CALL_WIDTH],
+            reply: Reply([0; REPLY_WIDTH]),
+        };
+        Bench {
+            board: Board::new(),
+            log: [FILL; LOG],
+            room: 0,
+            rows: [row; ROWS],
+            at: 0,
+        }
+    }
+
+    // Code 0: the rows stay as they are.
+    fn clear(&mut self, room: i64) {
+        self.board = Board::new();
+        self.log = [FILL; LOG];
+        self.room = limited(room, LOG as u32) as usize;
+        self.at = 0;
+    }
+
+    // A call, printed and kept.
+    fn call(&mut self, rt: &impl Print) {
+        let log: &mut [u8] = &mut self.log;
+        let row = &mut self.rows[self.at];
+        self.board = row.act(self.board, &mut log[..self.room]);
+        let _ = println!(rt; "{}", row.reply);
+        self.at = (self.at + 1).min(ROWS - 1);
+    }
+
+    // Code 50.
+    fn records(&self, rt: &impl Print) {
+        let log = &self.log[..self.room];
+        for record in log
+            .chunks_exact(Record::WIDTH)
+            .take(self.board.held as usize)
+        {
+            let _ = println!(rt; "{}", Held(record));
+        }
+        let _ = println!(rt; "end,{},{}", self.board.clock.0, self.board.held);
+    }
+
+    // Code 51.
+    fn pack(&mut self, rt: &impl Print, kind: i64, at: i64) {
+        let kind = limited(kind, 255) as u8;
+        let at = limited(at, LOG as u32) as usize;
+        let log: &mut [u8] = &mut self.log;
+        pack_line(rt, kind, at, &mut log[..self.room]);
+    }
+
+    // Code 52: what is refused leaves its board.
+    fn tries(&mut self, rt: &impl Print, from: i64, to: i64) {
+        let from = limited(from, ROWS as u32) as usize;
+        let to = limited(to, ROWS as u32) as usize;
+        let log: &mut [u8] = &mut self.log;
+        let log = &mut log[..self.room];
+        let mut board = self.board;
+        let _ = print!(rt; "tried");
+        for row in self.rows.iter_mut().take(to).skip(from) {
+            let after = row.act(board, log);
+            let refusal = row.reply.refusal();
+            let _ = print!(rt; ",{}", refusal.unwrap_or(0));
+            if refusal.is_some() {
+                board = after;
+            }
+        }
+        let _ = println!(rt);
+        self.board = board;
+    }
+
+    // A line that is no title.
+    fn step(&mut self, rt: &impl Print, line: &[u8]) {
+        let row = numbers(line);
+        let [code, x, y, z, ..] = row;
+        self.rows[self.at].numbers = row;
+        match Step::from(code) {
+            Step::Fresh => self.clear(x),
+            Step::Call => self.call(rt),
+            Step::Poke(field) => field.set(&mut self.board, x, y, z),
+            Step::Records => self.records(rt),
+            Step::Pack => self.pack(rt, x, y),
+            Step::Tries => self.tries(rt, x, y),
+        }
+    }
+}
+
+// All lines. What stands behind the last line end is a line too: an empty one, code 0, prints nothing.
+fn lines(rt: &impl Print, input: &[u8]) {
+    let mut bench = Bench::new();
+    for line in input.split(|byte| *byte == b'\n') {
+        if line.starts_with(b"#") {
+            title(rt, line);
+        } else {
+            bench.step(rt, line);
+        }
+    }
+}
+
+// Reads until the buffer is full, the input ends or a read fails; how many bytes were read. A `while`, since std's
+// read_exact doesn't tell how many where the input is shorter, and read_to_end needs the heap.
 fn read_full(reader: &mut impl Read, input: &mut [u8]) -> usize
     ensures { result ≤ length input.new }
 {
@@ -53,220 +202,8 @@ fn read_full(reader: &mut impl Read, input: &mut [u8]) -> usize
     done
 }
 
-// What the log's bytes are at the start.
-fn fill(log: &mut [u8]) {
-    let mut i: usize = 0;
-    while i < log.len() {
-        log[i] = 165;
-        i += 1;
-    }
-}
-
-// Row i, its reply put at its place, where both have it.
-fn row(b: Board, i: usize, calls: &[i64], log: &mut [u8], replies: &mut [u64]) -> Board {
-    if calls.len() / CALL_WIDTH <= i {
-        return b;
-    }
-    if replies.len() / REPLY_WIDTH <= i {
-        return b;
-    }
-    do_row(b, calls, i, log, replies)
-}
-
-// A call, printed and kept.
-fn call(rt: &impl Print, b: Bench, calls: &[i64], log: &mut [u8], replies: &mut [u64]) -> Bench {
-    let i = b.rows;
-    let before = b.board;
-    let board = row(before, i, calls, log, replies);
-    reply(rt, replies, i);
-    Bench {
-        board,
-        length: b.length,
-        rows: after(i, ROWS - 1),
-    }
-}
-
-// Code 52, one call: what is refused leaves its board.
-fn tried(
-    rt: &impl Print,
-    b: Board,
-    i: usize,
-    calls: &[i64],
-    log: &mut [u8],
-    replies: &mut [u64],
-) -> Board {
-    let c = row(b, i, calls, log, replies);
-    let n = refusal(replies, i);
-    next(rt, n);
-    if n == 0 { b } else { c }
-}
-
-// Code 52.
-fn try_calls(
-    rt: &impl Print,
-    b: Board,
-    from: usize,
-    to: usize,
-    calls: &[i64],
-    log: &mut [u8],
-    replies: &mut [u64],
-) -> Board {
-    let mut c = b;
-    let mut i = from;
-    text(rt, b"tried");
-    while i < to {
-        c = tried(rt, c, i, calls, log, replies);
-        i += 1;
-    }
-    text(rt, b"\n");
-    c
-}
-
-// The lesser of two.
-fn lesser(a: usize, b: usize) -> usize
-    ensures { (result ≤ a) × (result ≤ b) }
-{
-    if a < b { a } else { b }
-}
-
-// The board with a field set by force.
-fn with_poke(b: Bench, code: u32, calls: &[i64]) -> Bench {
-    let i = b.rows;
-    let before = b.board;
-    let board = poked(
-        before,
-        code,
-        number_of(calls, i, 1),
-        number_of(calls, i, 2),
-        number_of(calls, i, 3),
-    );
-    Bench {
-        board,
-        length: b.length,
-        rows: i,
-    }
-}
-
-// Code 52 with the numbers of its row.
-fn tries(rt: &impl Print, b: Bench, calls: &[i64], log: &mut [u8], replies: &mut [u64]) -> Bench {
-    let i = b.rows;
-    let from = limited(number_of(calls, i, 1), 320) as usize;
-    let to = limited(number_of(calls, i, 2), 320) as usize;
-    let before = b.board;
-    let board = try_calls(rt, before, from, to, calls, log, replies);
-    Bench {
-        board,
-        length: b.length,
-        rows: i,
-    }
-}
-
-// Code 51 with the numbers of its row.
-fn packs(rt: &impl Print, b: Bench, calls: &[i64], log: &mut [u8]) -> Bench {
-    let i = b.rows;
-    let kind = limited(number_of(calls, i, 1), 255) as u8;
-    let at = limited(number_of(calls, i, 2), 4096) as usize;
-    pack_line(rt, kind, at, log);
-    b
-}
-
-// A row that has been read, but for code 0, with the log cut to its length.
-fn step(
-    rt: &impl Print,
-    b: Bench,
-    code: u32,
-    calls: &[i64],
-    log: &mut [u8],
-    replies: &mut [u64],
-) -> Bench {
-    if code < 30 {
-        return call(rt, b, calls, log, replies);
-    }
-    if code < 48 {
-        return with_poke(b, code, calls);
-    }
-    if code == 50 {
-        let board = b.board;
-        held_records(rt, board, log);
-        return b;
-    }
-    if code == 51 {
-        return packs(rt, b, calls, log);
-    }
-    if code == 52 {
-        return tries(rt, b, calls, log, replies);
-    }
-    if code < 53 {
-        return call(rt, b, calls, log, replies);
-    }
-    if code < 60 {
-        return with_poke(b, code, calls);
-    }
-    call(rt, b, calls, log, replies)
-}
-
-// Code 0.
-fn fresh(length: usize, log: &mut [u8]) -> Bench {
-    fill(log);
-    Bench {
-        board: Board::new(),
-        length,
-        rows: 0,
-    }
-}
-
-// A line that is no title.
-fn numbers(
-    rt: &impl Print,
-    b: Bench,
-    line: &[u8],
-    calls: &mut [i64],
-    log: &mut [u8],
-    replies: &mut [u64],
-) -> Bench {
-    let i = b.rows;
-    read_row(line, calls, i);
-    let code = limited(number_of(calls, i, 0), 1000);
-    if code == 0 {
-        return fresh(limited(number_of(calls, i, 1), 4096) as usize, log);
-    }
-    let bytes = lesser(b.length, log.len());
-    step(rt, b, code, calls, &mut log[..bytes], replies)
-}
-
-// A line.
-fn line(
-    rt: &impl Print,
-    b: Bench,
-    bytes: &[u8],
-    calls: &mut [i64],
-    log: &mut [u8],
-    replies: &mut [u64],
-) -> Bench {
-    if begins(bytes, b'#') {
-        text(rt, bytes);
-        text(rt, b"\n");
-        return b;
-    }
-    numbers(rt, b, bytes, calls, log, replies)
-}
-
-// All lines.
-fn lines(rt: &impl Print, input: &[u8], calls: &mut [i64], log: &mut [u8], replies: &mut [u64]) {
-    let mut b = fresh(0, log);
-    let mut at: usize = 0;
-    while at < input.len() {
-        let end = find(input, at, b'\n');
-        b = line(rt, b, &input[at..end], calls, log, replies);
-        at = after(end, input.len());
-    }
-}
-
 fn main(rt: HostRuntime) {
     let mut input = [0u8; INPUT];
-    let mut log = [0u8; LOG];
-    let mut calls = [0i64; ROWS * CALL_WIDTH];
-    let mut replies = [0u64; ROWS * REPLY_WIDTH];
     let n = read_full(&mut rt.reader(), &mut input);
-    lines(&rt, &input[..n], &mut calls, &mut log, &mut replies);
+    lines(&rt, &input[..n]);
 }

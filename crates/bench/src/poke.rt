@@ -1,154 +1,184 @@
-// One field of a board set by force, whether or not its rules are kept.
+// One field of a board set by force, whether or not the board's rules are kept.
 ghost use Rattle.std.specs.Prelude.{◌≤◌};
 
 use board::Board;
-use board::points::Points;
 use track::Track;
-use track::number::{Natural, in_range};
+
+// A field of a board that lines set.
+#[derive(Clone, Copy)]
+pub enum Field {
+    Clock,
+    Held,
+    Present,
+    // The number of points.
+    Count,
+    // The key and the info of a point.
+    Key,
+    Info,
+    Track(TrackField),
+}
+
+// A field of a track.
+#[derive(Clone, Copy)]
+pub enum TrackField {
+    Min,
+    Max,
+    Start,
+    End,
+    Position,
+    Passes,
+    Loops,
+    Mode,
+    // An action cell.
+    Action,
+    Direction,
+    Repeat,
+    Due,
+    Master,
+    Band,
+    // A threshold, and an event beside one.
+    Threshold,
+    Event,
+    // The rate's steps and ticks, and the remainder.
+    Steps,
+    Ticks,
+    Remainder,
+}
+
+// A code that names no field.
+#[derive(Clone, Copy)]
+pub struct NoField;
 
 // The number, or `most` where it is negative or above that.
 pub fn limited(n: i64, most: u32) -> u32
     ensures { result ≤ most }
 {
-    let Natural::In(k) = in_range(n, 0, most) else {
-        return most;
-    };
-    if k < most { k } else { most }
+    u32::try_from(n).unwrap_or(most).min(most)
 }
 
 // The number, or the most of all where it is negative or above what 32 bits hold.
 fn long(n: i64) -> u64 {
-    let Natural::In(k) = in_range(n, 0, 4294967295) else {
-        return 18446744073709551615;
-    };
-    k as u64
+    u32::try_from(n).map_or(u64::MAX, u64::from)
 }
 
-// Codes 30 to 33: clock, held, the present tracks, the number of points.
-fn with_count(b: Board, code: u32, n: i64) -> Board {
-    let clock = limited(n, 4294967295);
-    let present = limited(n, 65535);
-    let many = long(n);
-    let mut c = b;
-    match code {
-        30 => c.clock.0 = clock,
-        31 => c.held = many,
-        32 => c.present = present as u16,
-        _ => c.points.count = many as usize,
+// A value put at a place; where there is none, nothing.
+fn put<T: Copy>(places: &mut [T], at: usize, value: T) {
+    if let Some(place) = places.get_mut(at) {
+        *place = value;
     }
-    c
 }
 
-// Codes 34 and 35: the key and the info of a point.
-fn with_point(b: Board, code: u32, at: usize, n: u32) -> Board {
-    if Points::MOST <= at {
-        return b;
+impl TryFrom<i64> for Field {
+    type Error = NoField;
+
+    fn try_from(code: i64) -> Result<Self, NoField> {
+        match code {
+            30 => Ok(Field::Clock),
+            31 => Ok(Field::Held),
+            32 => Ok(Field::Present),
+            33 => Ok(Field::Count),
+            34 => Ok(Field::Key),
+            35 => Ok(Field::Info),
+            _ => TrackField::try_from(code).map(Field::Track),
+        }
     }
-    let mut p = b.points;
-    if code == 34 {
-        p.keys[at] = n;
-    } else {
-        p.infos[at] = n;
-    }
-    let mut c = b;
-    c.points = p;
-    c
 }
 
-// Codes 36 to 40: min, max, start, end, position.
-fn placed(t: Track, code: u32, n: u32) -> Track {
-    let mut c = t;
-    match code {
-        36 => c.min.0 = n,
-        37 => c.max.0 = n,
-        38 => c.start.0 = n,
-        39 => c.end.0 = n,
-        _ => c.position.0 = n,
+impl Field {
+    // Sets it by the numbers of a line: of the board, x; else at place x, y. With a place that there is not, nothing.
+    pub fn set(self, board: &mut Board, x: i64, y: i64, z: i64) {
+        let at = limited(x, 256) as usize;
+        let n = limited(y, u32::MAX);
+        match self {
+            Field::Clock => board.clock.0 = limited(x, u32::MAX),
+            Field::Held => board.held = long(x),
+            Field::Present => board.present = limited(x, 65535) as u16,
+            Field::Count => board.points.count = long(x) as usize,
+            Field::Key => put(&mut board.points.keys, at, n),
+            Field::Info => put(&mut board.points.infos, at, n),
+            Field::Track(field) => {
+                if let Some(track) = board.tracks.get_mut(at) {
+                    field.set(track, n, limited(z, 16) as usize);
+                }
+            }
+        }
     }
-    c
 }
 
-// Codes 41 to 47: passes, loops, mode, an action cell, direction, repeat, due.
-fn counted(t: Track, code: u32, n: u32, cell: usize) -> Track {
-    if Track::CELLS <= cell {
-        return t;
+impl TryFrom<i64> for TrackField {
+    type Error = NoField;
+
+    fn try_from(code: i64) -> Result<Self, NoField> {
+        Ok(match code {
+            36 => TrackField::Min,
+            37 => TrackField::Max,
+            38 => TrackField::Start,
+            39 => TrackField::End,
+            40 => TrackField::Position,
+            41 => TrackField::Passes,
+            42 => TrackField::Loops,
+            43 => TrackField::Mode,
+            44 => TrackField::Action,
+            45 => TrackField::Direction,
+            46 => TrackField::Repeat,
+            47 => TrackField::Due,
+            53 => TrackField::Master,
+            54 => TrackField::Band,
+            55 => TrackField::Threshold,
+            56 => TrackField::Event,
+            57 => TrackField::Steps,
+            58 => TrackField::Ticks,
+            59 => TrackField::Remainder,
+            _ => return Err(NoField),
+        })
     }
-    let mut c = t;
-    match code {
-        41 => c.passes.0 = n,
-        42 => c.loops = (n % 65536) as u16,
-        43 => c.mode = (n % 256) as u8,
-        44 => c.actions[cell] = (n % 256) as u8,
-        45 => c.direction = (n % 256) as u8,
-        46 => c.repeat = (n % 256) as u8,
-        _ => c.due = (n % 256) as u8,
-    }
-    c
 }
 
-// Codes 53 to 56: master, band, a threshold, an event.
-fn led(t: Track, code: u32, n: u32, place: usize) -> Track {
-    if Track::THRESHOLDS <= place {
-        return t;
+impl TrackField {
+    // How many places a line may name with it, also where the field is one number.
+    fn places(self) -> usize {
+        match self {
+            TrackField::Passes
+            | TrackField::Loops
+            | TrackField::Mode
+            | TrackField::Action
+            | TrackField::Direction
+            | TrackField::Repeat
+            | TrackField::Due => Track::CELLS,
+            TrackField::Master | TrackField::Band | TrackField::Threshold | TrackField::Event => {
+                Track::THRESHOLDS
+            }
+            _ => usize::MAX,
+        }
     }
-    let mut c = t;
-    match code {
-        53 => c.master = (n % 256) as u8,
-        54 => c.band = (n % 256) as u8,
-        55 => c.thresholds[place] = n,
-        _ => c.events[place] = (n % 65536) as u16,
-    }
-    c
-}
 
-// Codes 57 to 59: the rate's steps and ticks, the remainder.
-fn rated(t: Track, code: u32, n: u32) -> Track {
-    let mut c = t;
-    match code {
-        57 => c.steps = (n % 65536) as u16,
-        58 => c.ticks = (n % 65536) as u16,
-        _ => c.remainder = n,
+    // Sets it to the number, or to what the field can hold of it.
+    fn set(self, track: &mut Track, n: u32, place: usize) {
+        if self.places() <= place {
+            return;
+        }
+        let byte = (n % 256) as u8;
+        let word = (n % 65536) as u16;
+        match self {
+            TrackField::Min => track.min.0 = n,
+            TrackField::Max => track.max.0 = n,
+            TrackField::Start => track.start.0 = n,
+            TrackField::End => track.end.0 = n,
+            TrackField::Position => track.position.0 = n,
+            TrackField::Passes => track.passes.0 = n,
+            TrackField::Loops => track.loops = word,
+            TrackField::Mode => track.mode = byte,
+            TrackField::Action => put(&mut track.actions, place, byte),
+            TrackField::Direction => track.direction = byte,
+            TrackField::Repeat => track.repeat = byte,
+            TrackField::Due => track.due = byte,
+            TrackField::Master => track.master = byte,
+            TrackField::Band => track.band = byte,
+            TrackField::Threshold => put(&mut track.thresholds, place, n),
+            TrackField::Event => put(&mut track.events, place, word),
+            TrackField::Steps => track.steps = word,
+            TrackField::Ticks => track.ticks = word,
+            TrackField::Remainder => track.remainder = n,
+        }
     }
-    c
-}
-
-// Codes from 36 on: a field of a track.
-fn with_field(b: Board, code: u32, at: usize, n: u32, cell: usize) -> Board {
-    if Board::TRACKS <= at {
-        return b;
-    }
-    let t = b.tracks[at];
-    let mut c = b;
-    if code <= 40 {
-        let p = placed(t, code, n);
-        c.tracks[at] = p;
-        return c;
-    }
-    if code <= 47 {
-        let q = counted(t, code, n, cell);
-        c.tracks[at] = q;
-        return c;
-    }
-    if code <= 56 {
-        let r = led(t, code, n, cell);
-        c.tracks[at] = r;
-        return c;
-    }
-    let s = rated(t, code, n);
-    c.tracks[at] = s;
-    c
-}
-
-// A field set; with a place that there is not, nothing.
-pub fn poked(b: Board, code: u32, x: i64, y: i64, z: i64) -> Board {
-    if code <= 33 {
-        return with_count(b, code, x);
-    }
-    let at = limited(x, 256) as usize;
-    let n = limited(y, 4294967295);
-    if code <= 35 {
-        return with_point(b, code, at, n);
-    }
-    let cell = limited(z, 16) as usize;
-    with_field(b, code, at, n, cell)
 }

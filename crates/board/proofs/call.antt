@@ -2,3 +2,4 @@ pub mod Machine
 pub mod Refusals
 pub mod Leaving
 pub mod Enough
+pub mod Given

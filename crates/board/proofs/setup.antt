@@ -1,3 +1,4 @@
+pub mod Results
 pub mod Guards
 pub mod Ways
 pub mod Keeping

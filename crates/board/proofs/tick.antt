@@ -1,4 +1,3 @@
-pub mod More
 pub mod PlayingLaws
 pub mod Staging
 pub mod Commands

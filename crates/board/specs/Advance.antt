@@ -18,7 +18,7 @@ abbrev pub board_left : Board → Left → Board
 board_left b r =
     record { tracks = r.tracks; present = b.present; points = b.points; clock = r.clock; held = r.held }
 
--- what an advance comes to on a board's parts
+-- what an advance comes to on a lent board
 abbrev pub Proceeds : ℤ → Board → List ℕ → Left → List ℕ → Type 0
 Proceeds count b log r log' = Gives (does (call.Advance count) (world b log)) (advanced_said r.answer) (board_left b r) log'
 

@@ -1,5 +1,5 @@
 -- A board's state, and the ranges and rules that 01 and 02 give for its tracks, points and clock.
-use Rattle.std.specs.Prelude.{ℕ, suc, ◌/◌, ◌%◌, ◌^◌, ◌≤◌, ◌<◌, ◌≡◌, List, [], ◌∷◌, Bool, true, cond, not, ◌&&◌, ◌||◌, length, get_or, replicate, take, leb, ltb, eqb, ℤ}
+use Rattle.std.specs.Prelude.{ℕ, suc, ◌/◌, ◌%◌, ◌^◌, ◌≤◌, ◌<◌, ◌≡◌, List, [], ◌∷◌, Bool, true, cond, not, ◌&&◌, ◌||◌, length, get_or, replicate, take, leb, ltb, eqb, ℤ, Option, Some, None}
 use Rattle.track.specs.declared.Track.{Track}
 use Rattle.track.specs.declared.Ticks.{Ticks}
 use Rattle.track.specs.Rule.{clock_end, Sound, sound_test, new_track, event_most}
@@ -8,9 +8,7 @@ use Rattle.board.specs.declared.Board.{Board}
 use Rattle.board.specs.declared.points.Points.{Points}
 use Rattle.board.specs.declared.points.Point.{Point}
 use Rattle.board.specs.Points.{point_most, ascending_from, keys_of, point_of, no_points, track_count}
-use Rattle.track.specs.declared.number.Natural.{Natural}
-use Rattle.track.specs.declared.number.Natural.TheVariants as natural
-use Rattle.track.specs.Number.{natural_of, on_natural}
+use Rattle.track.specs.Number.{natural_of, on_some}
 
 -- what is read where there is no track
 abbrev pub no_track : Track
@@ -146,8 +144,8 @@ fresh_board =
     }
 
 -- 1 number not 0 to 15, or track absent
-unfoldable pub found_in : ℕ → ℤ → Natural
-found_in present track = on_natural (natural_of track 0 15) (λ i. cond (is_present present i) (natural.In i) natural.Outside) natural.Outside
+unfoldable pub found_in : ℕ → ℤ → Option ℕ
+found_in present track = on_some (natural_of track 0 15) (λ i. cond (is_present present i) (Some i) None) None
 
 -- a board of its parts
 abbrev pub board_of : List Track → ℕ → List ℕ → List ℕ → ℕ → ℕ → ℕ → Board

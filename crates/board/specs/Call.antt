@@ -1,24 +1,16 @@
 -- What every call does with a board and a log: the answers by 01's numbers, and the rules of the board, as lists of calls use them.
-use Rattle.std.specs.Prelude.{ℕ, ◌+◌, ◌<◌, Bool, true, false, cond, ◌≡◌, List, [], ◌∷◌, length, ℤ, pos, leb}
-use Rattle.std.proofs.Math.Option.{Option, none, some}
+use Rattle.std.specs.Prelude.{ℕ, ◌+◌, ◌<◌, Bool, true, false, cond, ◌≡◌, List, [], ◌∷◌, length, ℤ, pos, leb, Option, Some, None, Result, Ok, Err, IfOk}
 use Rattle.track.specs.declared.Track.{Track}
-use Rattle.track.specs.declared.setup.Answer.{Answer}
-use Rattle.track.specs.declared.setup.Answer.TheVariants as answer
-use Rattle.track.specs.declared.number.Natural.{Natural}
-use Rattle.track.specs.declared.number.Natural.TheVariants as natural
+use Rattle.track.specs.declared.Ticks.{Ticks}
+use Rattle.track.specs.declared.refusal.Refusal.{Refusal}
+use Rattle.track.specs.Refusal.{Answer, number_of}
+use Rattle.track.specs.Refusal as answer
 use Rattle.track.specs.Rule.{clock_end}
 use Rattle.track.specs.Grid.{PLAY, PAUSE, RESUME, STOP}
 use Rattle.track.specs.Number.{natural_of, value_of}
 use Rattle.board.specs.declared.Board.{Board}
 use Rattle.board.specs.declared.log.Record.{Record}
 use Rattle.board.specs.declared.points.Point.{Point}
-use Rattle.board.specs.declared.setup.Outcome.{Outcome}
-use Rattle.board.specs.declared.query.ClockRead.{ClockRead}
-use Rattle.board.specs.declared.query.ClockRead.TheVariants as clock
-use Rattle.board.specs.declared.query.PointRead.{PointRead}
-use Rattle.board.specs.declared.query.PointRead.TheVariants as point
-use Rattle.board.specs.declared.query.CountRead.{CountRead}
-use Rattle.board.specs.declared.query.CountRead.TheVariants as count
 use Rattle.board.specs.declared.call.Advanced.{Advanced}
 use Rattle.board.specs.declared.call.Advanced.TheVariants as advanced
 use Rattle.board.specs.declared.call.Call.{Call}
@@ -28,7 +20,7 @@ use Rattle.board.specs.declared.call.Pairs.TheVariants as pairs
 use Rattle.board.specs.Log.{record_width, record_bytes, capacity}
 use Rattle.board.specs.Points.{track_count}
 use Rattle.board.specs.Board.{unbroken_test}
-use Rattle.board.specs.Setup.{board_with, set_up, add_track, set_point, drop_point, set_master, clear_board}
+use Rattle.board.specs.Setup.{Outcome, outcome, board_with, set_up, add_track, set_point, drop_point, set_master, clear_board}
 use Rattle.board.specs.Query.{clock_of, track_of, point_in, count_in}
 use Rattle.board.specs.Tick.{tick_of}
 use Rattle.board.specs.Mode.{ModeResult, mode_result, outcome_of}
@@ -122,21 +114,22 @@ abbrev pub answered : Answer → Reply
 answered answer.Accepted = accepted
 answered (answer.Refused n) = refused n
 
-abbrev pub clock_said : ClockRead → Reply
-clock_said (clock.Clock c held) = clock_is c.0 held
-clock_said (clock.Refused n) = refused n
+-- what a result says: its value by f, or the refusal's number
+abbrev pub said_by : {A : Type 0} → (A → Reply) → Result A Refusal → Reply
+said_by f (Ok x) = f x
+said_by f (Err e) = refused (number_of e)
 
-abbrev pub track_said : Answer → Track → Reply
-track_said answer.Accepted t = track_is (track_values t)
-track_said (answer.Refused n) t = refused n
+abbrev pub clock_said : Result (Ticks × ℕ) Refusal → Reply
+clock_said = said_by (λ r. clock_is r.0.0 r.1)
 
-abbrev pub point_said : PointRead → Reply
-point_said (point.Found p) = point_is (point_values p)
-point_said (point.Refused n) = refused n
+abbrev pub track_said : Result Track Refusal → Reply
+track_said = said_by (λ t. track_is (track_values t))
 
-abbrev pub count_said : CountRead → Reply
-count_said (count.Count n) = count_is n
-count_said (count.Refused n) = refused n
+abbrev pub point_said : Result Point Refusal → Reply
+point_said = said_by (λ p. point_is (point_values p))
+
+abbrev pub count_said : Result ℕ Refusal → Reply
+count_said = said_by count_is
 
 -- What stops an advance: the clock's end, or records that don't fit. No refusal is one of them.
 pub data Stop : Type 0 where
@@ -144,9 +137,9 @@ pub data Stop : Type 0 where
   fills : Stop
 
 abbrev pub stopped_by : ℕ → Option Stop → Reply
-stopped_by taken none = done taken
-stopped_by taken (some ends) = clock_ended taken
-stopped_by taken (some fills) = log_full taken
+stopped_by taken None = done taken
+stopped_by taken (Some ends) = clock_ended taken
+stopped_by taken (Some fills) = log_full taken
 
 -- What stopped an advance, or refused it: the two are kept apart.
 pub data Reason : Type 0 where
@@ -167,21 +160,21 @@ taken_in (count_is n) = 0
 
 -- the reason that it carries, if it isn't Done
 abbrev pub why_not : Reply → Option Reason
-why_not accepted = none
-why_not (refused n) = some (refused_with n)
-why_not (done n) = none
-why_not (log_full n) = some (stopped fills)
-why_not (clock_ended n) = some (stopped ends)
-why_not (clock_is c held) = none
-why_not (track_is t) = none
-why_not (point_is p) = none
-why_not (count_is n) = none
+why_not accepted = None
+why_not (refused n) = Some (refused_with n)
+why_not (done n) = None
+why_not (log_full n) = Some (stopped fills)
+why_not (clock_ended n) = Some (stopped ends)
+why_not (clock_is c held) = None
+why_not (track_is t) = None
+why_not (point_is p) = None
+why_not (count_is n) = None
 
 abbrev pub advanced_said : Advanced → Reply
 advanced_said (advanced.Done n) = done n.0
 advanced_said (advanced.LogFull n) = log_full n.0
 advanced_said (advanced.ClockEnd n) = clock_ended n.0
-advanced_said (advanced.Refused n) = refused n
+advanced_said (advanced.Refused e) = refused (number_of e)
 
 -- ---- the board's rules, for any log of n bytes
 
@@ -206,17 +199,17 @@ ticked b =
 -- before a tick: the clock is 1,000,000,000 or, failing that, its records don't fit
 unfoldable pub halt_of : ℕ → Board → Option Stop
 halt_of n b =
-    cond (leb clock_end b.clock.0) (some ends)
-    (cond (leb (b.held + length (tick_of b).records) (capacity n)) none (some fills))
+    cond (leb clock_end b.clock.0) (Some ends)
+    (cond (leb (b.held + length (tick_of b).records) (capacity n)) None (Some fills))
 
 -- an advance is refused 3 for a broken board, then 7
 unfoldable pub bar_of : ℕ → Board → Option ℕ
-bar_of n b = cond (unbroken_test b) (cond (leb b.held (capacity n)) none (some 7)) (some 3)
+bar_of n b = cond (unbroken_test b) (cond (leb b.held (capacity n)) None (Some 7)) (Some 3)
 
 -- an advance with another count than 0 to 4,294,967,295: 3, after those
 abbrev pub barred : Option ℕ → Reply
-barred none = refused 3
-barred (some k) = refused k
+barred None = refused 3
+barred (Some k) = refused k
 
 abbrev pub made_of : Outcome → Made Board Record
 made_of o = record { board = o.board; records = [] }
@@ -249,7 +242,7 @@ says_of (call.Stop i) n b = answered (mode_result b n i STOP).answer
 says_of (call.Advance k) n b = barred (bar_of n b)
 says_of call.Clear n b = answered (clear_board b).answer
 says_of call.Clock n b = clock_said (clock_of b)
-says_of (call.Track i) n b = track_said (track_of b i).answer (track_of b i).track
+says_of (call.Track i) n b = track_said (track_of b i)
 says_of (call.Point i p) n b = point_said (point_in b i p)
 says_of (call.PointCount i from to) n b = count_said (count_in b i from to)
 says_of (call.Master i m ps) n b = answered (set_master b i m (pair_numbers ps)).answer
@@ -321,26 +314,22 @@ gridstep =
 abbrev pub most : ℕ
 most = 4294967295
 
-abbrev pub taken? : Natural → Option ℕ
-taken? (natural.In k) = some k
-taken? natural.Outside = none
-
 unfoldable pub run_count : Call → Option ℕ
-run_count (call.Advance k) = taken? (natural_of k 0 most)
-run_count (call.AddTrack i lo hi) = none
-run_count (call.SetUp i c) = none
-run_count (call.SetPoint i p e w c g) = none
-run_count (call.DropPoint i p) = none
-run_count (call.Play i) = none
-run_count (call.Pause i) = none
-run_count (call.Resume i) = none
-run_count (call.Stop i) = none
-run_count call.Clear = none
-run_count call.Clock = none
-run_count (call.Track i) = none
-run_count (call.Point i p) = none
-run_count (call.PointCount i from to) = none
-run_count (call.Master i m ps) = none
+run_count (call.Advance k) = natural_of k 0 most
+run_count (call.AddTrack i lo hi) = None
+run_count (call.SetUp i c) = None
+run_count (call.SetPoint i p e w c g) = None
+run_count (call.DropPoint i p) = None
+run_count (call.Play i) = None
+run_count (call.Pause i) = None
+run_count (call.Resume i) = None
+run_count (call.Stop i) = None
+run_count call.Clear = None
+run_count call.Clock = None
+run_count (call.Track i) = None
+run_count (call.Point i p) = None
+run_count (call.PointCount i from to) = None
+run_count (call.Master i m ps) = None
 
 abbrev pub advance_by : ℕ → Call
 advance_by n = call.Advance (pos n)
@@ -362,16 +351,24 @@ pub record Gives (d : Did Reply (World Board)) (reply : Reply) (board : Board) (
 abbrev pub Leaves : Call → Board → Reply → Board → Type 0
 Leaves c b reply board = (log : List ℕ) → Gives (does c (world b log)) reply board log
 
+-- the same of the result of a call that takes no log: the board that it gives, or the board as it was
+abbrev pub LeavesAs : Call → Board → Result Board Refusal → Type 0
+LeavesAs c b r = Leaves c b (answered (outcome b r).answer) (outcome b r).board
+
+-- and of one that takes a log
+abbrev pub GivesAs : Did Reply (World Board) → Board → Result Board Refusal → List ℕ → Type 0
+GivesAs d b r log = Gives d (answered (outcome b r).answer) (outcome b r).board log
+
 -- what a mode call does by its number, 1 play, 2 pause, 3 resume, 4 stop; no mode allows any other
 unfoldable pub mode_does : ℕ → ℤ → World Board → Did Reply (World Board)
 mode_does k track w =
     let m = mode_result w.board (length w.log) track k in
     record { answer = answered m.answer; left = wrote gridstep (made_by m) w }
 
--- what it comes to on a board's parts, and the place of the one track that it may change
-abbrev pub ChangesMode : ℕ → ℤ → Board → List ℕ → ModeChange → List ℕ → Type 0
+-- what it comes to on a lent board, and the place of the one track that it may change
+abbrev pub ChangesMode : ℕ → ℤ → Board → List ℕ → Result ModeChange Refusal → List ℕ → Type 0
 ChangesMode k track b log r log' =
-    Gives (mode_does k track (world b log)) (answered r.answer) (outcome_of b r).board log' × (r.at < track_count)
+    Gives (mode_does k track (world b log)) (answered (outcome_of b r).answer) (outcome_of b r).board log' × IfOk r (λ c. c.at < track_count)
 
 -- what a master call does with any list of numbers: it writes no record
 unfoldable pub master_does : ℤ → ℤ → List ℤ → World Board → Did Reply (World Board)
@@ -381,13 +378,15 @@ master_does track master zs w =
 
 -- ---- What a call tells, as the code has it, and 01's reply.
 
-abbrev pub reply_of : Told → Track → Reply
-reply_of told.Accepted t = accepted
-reply_of (told.Refused n) t = refused n
-reply_of (told.Done n) t = done n.0
-reply_of (told.LogFull n) t = log_full n.0
-reply_of (told.ClockEnd n) t = clock_ended n.0
-reply_of (told.Clock c held) t = clock_is c.0 held
-reply_of told.Track t = track_is (track_values t)
-reply_of (told.Point p) t = point_is (point_values p)
-reply_of (told.Count n) t = count_is n
+abbrev pub told_as : Told → Reply
+told_as told.Accepted = accepted
+told_as (told.Done n) = done n.0
+told_as (told.LogFull n) = log_full n.0
+told_as (told.ClockEnd n) = clock_ended n.0
+told_as (told.Clock c held) = clock_is c.0 held
+told_as (told.Track t) = track_is (track_values t)
+told_as (told.Point p) = point_is (point_values p)
+told_as (told.Count n) = count_is n
+
+abbrev pub reply_of : Result Told Refusal → Reply
+reply_of = said_by told_as

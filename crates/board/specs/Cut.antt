@@ -1,6 +1,5 @@
 -- Ticks one by one, runs of advances, and lists of calls that differ only in the cut (01, "Lists of calls"), of any board.
-use Rattle.std.specs.Prelude.{◌≡◌, List, [], ◌∷◌, ℕ, zero, suc, ◌+◌, ◌≤◌}
-use Rattle.std.proofs.Math.Option.{Option, none, some}
+use Rattle.std.specs.Prelude.{◌≡◌, List, [], ◌∷◌, ℕ, zero, suc, ◌+◌, ◌≤◌, Option, Some, None}
 
 -- What ticks come to: how many were taken, what stopped them if anything did, and where they left off.
 pub record Ran (E S : Type 0) : Type 0 where
@@ -10,8 +9,8 @@ pub record Ran (E S : Type 0) : Type 0 where
 
 -- the earlier of two reasons
 abbrev pub first : {E : Type 0} → Option E → Option E → Option E
-first none o = o
-first (some e) o = some e
+first None o = o
+first (Some e) o = Some e
 
 -- some ticks, and then others from where they left off
 abbrev pub joined : {E S : Type 0} → Ran E S → Ran E S → Ran E S
@@ -38,13 +37,13 @@ pub record All (A S : Type 0) : Type 0 where
 module _ {E S : Type 0} (halt : S → Option E) (step : S → S) where
   -- n single ticks: before each it asks if the count is reached, and then if something stops it
   unfoldable pub ticks : ℕ → S → Ran E S
-  ticks zero s = idle none s
-  ticks (suc n) s = elim (halt s) [ none ↦ counted (ticks n (step s)) | some e ↦ idle (some e) s ]
+  ticks zero s = idle None s
+  ticks (suc n) s = elim (halt s) [ None ↦ counted (ticks n (step s)) | Some e ↦ idle (Some e) s ]
 
   -- the states in which a tick is taken
   unfoldable pub passed : ℕ → S → List S
   passed zero s = []
-  passed (suc n) s = elim (halt s) [ none ↦ s ∷ passed n (step s) | some e ↦ [] ]
+  passed (suc n) s = elim (halt s) [ None ↦ s ∷ passed n (step s) | Some e ↦ [] ]
 
   -- `bar` refuses an advance, whatever its count; `done` and `refuse` are the two answers
   module _ {A K : Type 0} (bar : S → Option K) (done : ℕ → Option E → A) (refuse : K → A) where
@@ -54,11 +53,11 @@ module _ {E S : Type 0} (halt : S → Option E) (step : S → S) where
 
     -- an advance: refused, or its ticks
     unfoldable pub advance : ℕ → S → Did A S
-    advance n s = elim (bar s) [ none ↦ told (ticks n s) | some k ↦ record { answer = refuse k; left = s } ]
+    advance n s = elim (bar s) [ None ↦ told (ticks n s) | Some k ↦ record { answer = refuse k; left = s } ]
 
     -- the states in which an advance takes a tick
     unfoldable pub crossed : ℕ → S → List S
-    crossed n s = elim (bar s) [ none ↦ passed n s | some k ↦ [] ]
+    crossed n s = elim (bar s) [ None ↦ passed n s | Some k ↦ [] ]
 
 -- ---- the cut
 
@@ -112,8 +111,8 @@ module _ {A C S : Type 0} (does : Part C → S → Did A S) where
 -- `count c` is the count of c if c is an advance that may stand in a run; `go n` is the advance of n, for n up to `most`
 module _ {C : Type 0} (most : ℕ) (count : C → Option ℕ) (go : ℕ → C) where
   abbrev pub sorted : C → Option ℕ → Part C
-  sorted c none = one c
-  sorted c (some n) = run n
+  sorted c None = one c
+  sorted c (Some n) = run n
 
   -- a call, and a list of calls, as the cut sees them
   abbrev pub part : C → Part C

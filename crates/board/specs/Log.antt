@@ -1,12 +1,10 @@
 -- The log: numbers as bytes, a part of a list written over, and the record (01, "Log record"): 16 bytes, lowest byte first.
-use Rattle.std.specs.Prelude.{List, [], ◌∷◌, ◌++◌, ℕ, zero, suc, ◌+◌, ◌-◌, ◌*◌, ◌/◌, ◌%◌, length, take, drop, get_or, Bool, cond, ◌&&◌, eqb, ltb, leb, ℤ, pos, negsuc}
+use Rattle.std.specs.Prelude.{List, [], ◌∷◌, ◌++◌, ℕ, zero, suc, ◌+◌, ◌-◌, ◌*◌, ◌/◌, ◌%◌, length, take, drop, get_or, Bool, cond, ◌&&◌, eqb, ltb, leb, ℤ, pos, negsuc, Result, Ok, Err, ⊤}
 use Rattle.track.specs.declared.Coordinate.{Coordinate}
 use Rattle.track.specs.Number.{value_of}
-use Rattle.track.specs.declared.setup.Answer.{Answer}
-use Rattle.track.specs.declared.setup.Answer.TheVariants.{Accepted, Refused}
+use Rattle.track.specs.declared.refusal.Refusal.{Refusal}
+use Rattle.track.specs.Refusal.{number_of}
 use Rattle.board.specs.declared.log.Record.{Record}
-use Rattle.board.specs.declared.log.Unpacked.{Unpacked}
-use Rattle.board.specs.declared.log.Unpacked.TheVariants as unpacked
 
 -- x in n bytes, lowest byte first
 unfoldable pub le : ℕ → ℕ → List ℕ
@@ -95,13 +93,13 @@ pub data LogReply : Type 0 where
   record_is : RecordValues → LogReply
   refused : ℕ → LogReply
 
-abbrev pub pack_said : Answer → LogReply
-pack_said Accepted = packed
-pack_said (Refused n) = refused n
+abbrev pub pack_said : Result ⊤ Refusal → LogReply
+pack_said (Ok x) = packed
+pack_said (Err e) = refused (number_of e)
 
-abbrev pub unpack_said : Unpacked → LogReply
-unpack_said (unpacked.Held r) = record_is (record_values r)
-unpack_said (unpacked.Refused n) = refused n
+abbrev pub unpack_said : Result Record Refusal → LogReply
+unpack_said (Ok r) = record_is (record_values r)
+unpack_said (Err e) = refused (number_of e)
 
 -- Unpacking a slice that isn't 16 bytes long, or has another kind, is refused 3.
 unfoldable pub unpack_of : List ℕ → LogReply

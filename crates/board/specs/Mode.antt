@@ -1,19 +1,16 @@
 -- The four mode calls (01, "Track", "Other calls", "Turned down"), as far as the log's length decides them.
-use Rattle.std.specs.Prelude.{ℕ, ◌+◌, cond, List, [], length, set, ℤ, leb}
-use Rattle.track.specs.declared.grid.Decision.{Decision}
-use Rattle.track.specs.declared.grid.Decision.TheVariants as decision
-use Rattle.track.specs.declared.setup.Answer.{Answer}
-use Rattle.track.specs.declared.setup.Answer.TheVariants.{Accepted, Refused}
+use Rattle.std.specs.Prelude.{ℕ, ◌+◌, cond, List, [], length, set, ℤ, leb, Option, Some, None, Result, Ok, Err}
+use Rattle.track.specs.declared.refusal.Refusal.{Refusal}
+use Rattle.track.specs.Refusal.{Answer, Accepted, Refused, number_of}
 use Rattle.track.specs.Rule.{entered}
 use Rattle.track.specs.Grid.{grid_of}
-use Rattle.track.specs.Number.{on_natural}
+use Rattle.track.specs.Number.{on_some}
 use Rattle.board.specs.declared.Board.{Board}
 use Rattle.board.specs.declared.log.Record.{Record}
 use Rattle.board.specs.Log.{capacity}
-use Rattle.board.specs.declared.setup.Outcome.{Outcome}
 use Rattle.board.specs.declared.mode.ModeChange.{ModeChange}
 use Rattle.board.specs.Board.{track_at, unbroken_test, found_in}
-use Rattle.board.specs.Setup.{board_with}
+use Rattle.board.specs.Setup.{Outcome, board_with, accepted, refused}
 use Rattle.board.specs.Tick.{change_records}
 
 -- what a call with the log comes to: the answer, the board with its records not yet counted, and those records
@@ -45,20 +42,20 @@ unfoldable pub changes_to : Board → ℕ → ℕ → ℕ → ModeResult
 changes_to b n i mode = cond (leb (b.held + length (call_records b i mode)) (capacity n)) (changing b i mode) (declined 8 b)
 
 -- 2 mode does not allow the call
-unfoldable pub decided : Board → ℕ → ℕ → Decision → ModeResult
-decided b n i (decision.Goes mode) = changes_to b n i mode
-decided b n i decision.Refused = declined 2 b
+unfoldable pub decided : Board → ℕ → ℕ → Option ℕ → ModeResult
+decided b n i (Some mode) = changes_to b n i mode
+decided b n i None = declined 2 b
 
 -- 3 broken, 7 capacity below held, 1 track, 2 mode, 8 no room; n is the log's length
 unfoldable pub mode_result : Board → ℕ → ℤ → ℕ → ModeResult
 mode_result b n track call =
     cond (unbroken_test b)
     (cond (leb b.held (capacity n))
-    (on_natural (found_in b.present track) (λ i. decided b n i (grid_of (track_at b.tracks i).mode call)) (declined 1 b))
+    (on_some (found_in b.present track) (λ i. decided b n i (grid_of (track_at b.tracks i).mode call)) (declined 1 b))
     (declined 7 b))
     (declined 3 b)
 
 -- the board b after a mode call that came to r, and the answer: one track put in its place, and the number of records held
-abbrev pub outcome_of : Board → ModeChange → Outcome
-outcome_of b r =
-    record { answer = r.answer; board = board_with b (set b.tracks r.at r.track) b.present b.points r.held }
+abbrev pub outcome_of : Board → Result ModeChange Refusal → Outcome
+outcome_of b (Ok r) = accepted (board_with b (set b.tracks r.at r.track) b.present b.points r.held)
+outcome_of b (Err e) = refused (number_of e) b

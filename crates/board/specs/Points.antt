@@ -1,10 +1,8 @@
 -- The points of a board (01, "Points"), kept as two rows of numbers in ascending order of their keys.
-use Rattle.std.specs.Prelude.{ℕ, suc, ◌+◌, ◌-◌, ◌*◌, ◌/◌, ◌%◌, List, [], ◌∷◌, ◌++◌, Bool, true, false, cond, ◌&&◌, ◌||◌, take, drop, set, replicate, leb, ltb, eqb}
+use Rattle.std.specs.Prelude.{ℕ, suc, ◌+◌, ◌-◌, ◌*◌, ◌/◌, ◌%◌, ◌≤◌, ◌≡◌, List, [], ◌∷◌, ◌++◌, Bool, true, false, cond, ◌&&◌, ◌||◌, length, take, drop, set, replicate, leb, ltb, eqb, Option, Some, None}
+use Rattle.track.specs.declared.Coordinate.{Coordinate}
 use Rattle.board.specs.declared.points.Points.{Points}
 use Rattle.board.specs.declared.points.Point.{Point}
-use Rattle.board.specs.declared.points.Stored.{Stored}
-use Rattle.board.specs.declared.points.Near.{Near}
-use Rattle.board.specs.declared.points.Near.TheVariants.{At, Nothing}
 
 -- at most 256 on a board
 abbrev pub point_most : ℕ
@@ -134,6 +132,16 @@ added t k d =
     let i = first_from (keys_of t) k in
     record { keys = insert_row t.count i k t.keys; infos = insert_row t.count i d t.infos; count = t.count + 1 }
 
+-- whether a change is made, and the points after it
+pub record Stored : Type 0 where
+  pub done : Bool
+  pub points : Points
+
+-- the same of what the code gives: the points after it, or none, and they stay
+abbrev pub stored_as : Points → Option Points → Stored
+stored_as t (Some u) = record { done = true; points = u }
+stored_as t None = record { done = false; points = t }
+
 -- A 257th point finds no room; replacing one is no new point.
 unfoldable pub stored_in : Points → ℕ → ℕ → Stored
 stored_in t k d =
@@ -163,20 +171,35 @@ unfoldable pub between : ℕ → ℕ → ℕ → Bool
 between from past x = leb from x && ltb x past
 
 -- the first and the last key that a test accepts, as a coordinate of the track
-unfoldable pub find_first : (ℕ → Bool) → ℕ → List ℕ → Near
-find_first p track [] = Nothing
-find_first p track (x ∷ xs) = cond (p x) (At (record { 0 = x - track * stride })) (find_first p track xs)
+unfoldable pub find_first : (ℕ → Bool) → ℕ → List ℕ → Option Coordinate
+find_first p track [] = None
+find_first p track (x ∷ xs) = cond (p x) (Some (record { 0 = x - track * stride })) (find_first p track xs)
 
-abbrev pub or_else : Near → Near → Near
-or_else (At x) n = At x
-or_else Nothing n = n
+abbrev pub or_else : Option Coordinate → Option Coordinate → Option Coordinate
+or_else (Some x) n = Some x
+or_else None n = n
 
-unfoldable pub find_last : (ℕ → Bool) → ℕ → List ℕ → Near
-find_last p track [] = Nothing
-find_last p track (x ∷ xs) = or_else (find_last p track xs) (cond (p x) (At (record { 0 = x - track * stride })) Nothing)
+unfoldable pub find_last : (ℕ → Bool) → ℕ → List ℕ → Option Coordinate
+find_last p track [] = None
+find_last p track (x ∷ xs) = or_else (find_last p track xs) (cond (p x) (Some (record { 0 = x - track * stride })) None)
 
 -- the nearest point strictly further on than l in a direction, within start to end
-unfoldable pub nearest : Bool → ℕ → ℕ → ℕ → ℕ → List ℕ → Near
+unfoldable pub nearest : Bool → ℕ → ℕ → ℕ → ℕ → List ℕ → Option Coordinate
 nearest backward track l start end ks =
     cond backward (find_last (between (key track start) (key track l)) track ks)
     (find_first (between (key track l + 1) (key track end + 1)) track ks)
+
+-- ---- what lookups may rely on
+
+-- the info beside a key is not 0, so that an info of 0 says that there is no point
+abbrev pub NonzeroInfos : List ℕ → List ℕ → Type 0
+NonzeroInfos ks ds = (k : ℕ) → has_key k ks ≡ true → info_at k ks ds ≡ 0 → ⊥
+
+-- the points of a board that keeps its rules: two rows with a place for each point, which they have by their type, no more points
+-- than places, keys that ascend strictly, and no info 0
+pub record PointsRule (t : Points) : Type 0 where
+  pub keys : length t.keys ≡ point_most
+  pub infos : length t.infos ≡ point_most
+  pub count : t.count ≤ point_most
+  pub order : ascending_from 0 (keys_of t) ≡ true
+  pub nonzero : NonzeroInfos (keys_of t) (infos_of t)

@@ -7,20 +7,16 @@ use Rattle.track.specs.Walk.{arrival, stops}
 use Rattle.track.specs.Stride.{stride}
 use Rattle.track.specs.Leap.{moves, leap}
 use Rattle.track.specs.Follow.{thresholds_of, pairs_test}
-use Rattle.board.specs.Points.{key, has_key, info_at, track_count}
+use Rattle.board.specs.Points.{key, has_key, track_count}
 use Rattle.board.specs.Replay.{Each}
 use Rattle.board.specs.Board.{track_at}
 use Rattle.board.specs.Tick.{play_bit}
 use Rattle.board.specs.Steady.{SteadyFor, Unsteady}
 
 -- one number of a list at least
-unfoldable pub Some : (ℕ → Type 0) → List ℕ → Type 0
-Some P [] = ⊥
-Some P (i ∷ is) = P i ⊎ Some P is
-
--- the info beside a key is not 0, so that an info of 0 says that there is no point
-unfoldable pub NonzeroInfos : List ℕ → List ℕ → Type 0
-NonzeroInfos ks ds = (k : ℕ) → has_key k ks ≡ true → info_at k ks ds ≡ 0 → ⊥
+unfoldable pub AnyOf : (ℕ → Type 0) → List ℕ → Type 0
+AnyOf P [] = ⊥
+AnyOf P (i ∷ is) = P i ⊎ AnyOf P is
 
 -- the next step of track t, number i, reaches a point of its own
 abbrev pub reaches : List ℕ → ℕ → Track → Bool
@@ -70,8 +66,8 @@ pub record Fewest (ks : List ℕ) (ts : List Track) (players followers : List �
   pub small : r ≤ a
   pub quiet : Each (λ i. QuietFor ks r i (track_at ts i)) players
   pub steady : Each (λ i. SteadyFor r (track_at ts i) (master_of ts i)) followers
-  pub exact : r < a → Some (λ i. ends_quiet ks i (leap (track_at ts i) r) ≡ true) players
-      ⊎ Some (λ i. Unsteady r (track_at ts i) (master_of ts i)) followers
+  pub exact : r < a → AnyOf (λ i. ends_quiet ks i (leap (track_at ts i) r) ≡ true) players
+      ⊎ AnyOf (λ i. Unsteady r (track_at ts i) (master_of ts i)) followers
 
 -- the follower of this number and its master are tracks, and its thresholds and its band keep their rules
 pub record WithMaster (ts : List Track) (i : ℕ) : Type 0 where

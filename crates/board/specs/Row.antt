@@ -1,6 +1,5 @@
 -- Calls and replies as rows of numbers, what a row does, and what it leaves.
-use Rattle.std.specs.Prelude.{ℕ, zero, suc, ◌-◌, Bool, false, cond, List, [], ◌∷◌, ◌++◌, eqb, ℤ, pos, negsuc, length, drop, get_or, replicate, ◌≡◌}
-use Rattle.std.proofs.Math.Option.{Option, none, some}
+use Rattle.std.specs.Prelude.{ℕ, zero, suc, ◌-◌, Bool, false, cond, List, [], ◌∷◌, ◌++◌, eqb, ℤ, pos, negsuc, length, drop, get_or, replicate, ◌≡◌, Option, Some, None}
 use Rattle.track.specs.declared.setup.Change.TheVariants as change
 use Rattle.track.specs.Number.{coordinate_at}
 use Rattle.board.specs.declared.Board.{Board}
@@ -11,8 +10,6 @@ use Rattle.board.specs.declared.call.Pairs.TheVariants as pairs
 use Rattle.board.specs.Call.{TrackValues, PointValues, Reply, accepted, refused, done, log_full, clock_ended, clock_is, track_is, point_is, count_is, does}
 use Rattle.board.specs.Cut.{All, Did}
 use Rattle.board.specs.Replay.{World}
-use Rattle.board.specs.declared.row.Coded.{Coded}
-use Rattle.board.specs.declared.row.Coded.TheVariants as coded
 use Rattle.board.specs.Log.{write_at}
 
 -- ---- a call
@@ -24,32 +21,32 @@ call_width = 14
 -- codes 1 to 16 are the script's lines in the order of 01, 17 to 20 the queries, 22 is rate (02, 2.4); any other is no call of six numbers
 abbrev pub call_from : ℕ → ℤ → ℤ → ℤ → ℤ → ℤ → ℤ → Option Call
 call_from n a b c d e f =
-    cond (eqb n 1) (some (call.AddTrack a b c))
-    (cond (eqb n 2) (some (call.SetUp a (change.Start b)))
-    (cond (eqb n 3) (some (call.SetUp a (change.End b)))
-    (cond (eqb n 4) (some (call.SetUp a (change.Loops b)))
-    (cond (eqb n 5) (some (call.SetUp a (change.Repeat b)))
-    (cond (eqb n 6) (some (call.SetUp a (change.Direction b)))
-    (cond (eqb n 7) (some (call.SetPoint a b c d e f))
-    (cond (eqb n 8) (some (call.DropPoint a b))
-    (cond (eqb n 9) (some (call.SetUp a (change.Action b c d)))
-    (cond (eqb n 10) (some (call.SetUp a (change.Jump b)))
-    (cond (eqb n 11) (some (call.Play a))
-    (cond (eqb n 12) (some (call.Pause a))
-    (cond (eqb n 13) (some (call.Resume a))
-    (cond (eqb n 14) (some (call.Stop a))
-    (cond (eqb n 15) (some (call.Advance a))
-    (cond (eqb n 16) (some call.Clear)
-    (cond (eqb n 17) (some call.Clock)
-    (cond (eqb n 18) (some (call.Track a))
-    (cond (eqb n 19) (some (call.Point a b))
-    (cond (eqb n 20) (some (call.PointCount a b c))
-    (cond (eqb n 22) (some (call.SetUp a (change.Rate b c)))
-    none))))))))))))))))))))
+    cond (eqb n 1) (Some (call.AddTrack a b c))
+    (cond (eqb n 2) (Some (call.SetUp a (change.Start b)))
+    (cond (eqb n 3) (Some (call.SetUp a (change.End b)))
+    (cond (eqb n 4) (Some (call.SetUp a (change.Loops b)))
+    (cond (eqb n 5) (Some (call.SetUp a (change.Repeat b)))
+    (cond (eqb n 6) (Some (call.SetUp a (change.Direction b)))
+    (cond (eqb n 7) (Some (call.SetPoint a b c d e f))
+    (cond (eqb n 8) (Some (call.DropPoint a b))
+    (cond (eqb n 9) (Some (call.SetUp a (change.Action b c d)))
+    (cond (eqb n 10) (Some (call.SetUp a (change.Jump b)))
+    (cond (eqb n 11) (Some (call.Play a))
+    (cond (eqb n 12) (Some (call.Pause a))
+    (cond (eqb n 13) (Some (call.Resume a))
+    (cond (eqb n 14) (Some (call.Stop a))
+    (cond (eqb n 15) (Some (call.Advance a))
+    (cond (eqb n 16) (Some call.Clear)
+    (cond (eqb n 17) (Some call.Clock)
+    (cond (eqb n 18) (Some (call.Track a))
+    (cond (eqb n 19) (Some (call.Point a b))
+    (cond (eqb n 20) (Some (call.PointCount a b c))
+    (cond (eqb n 22) (Some (call.SetUp a (change.Rate b c)))
+    None))))))))))))))))))))
 
 abbrev pub call_of : ℤ → ℤ → ℤ → ℤ → ℤ → ℤ → ℤ → Option Call
 call_of (pos n) a b c d e f = call_from n a b c d e f
-call_of (negsuc n) a b c d e f = none
+call_of (negsuc n) a b c d e f = None
 
 -- number k of a row
 abbrev pub row_number : List ℤ → ℕ → ℤ
@@ -83,8 +80,8 @@ pairs_in n zs =
 
 -- a negative number of pairs is no call
 abbrev pub master_call : ℤ → ℤ → ℤ → (ℕ → Pairs) → Option Call
-master_call track master (pos n) ps = some (call.Master track master (ps n))
-master_call track master (negsuc n) ps = none
+master_call track master (pos n) ps = Some (call.Master track master (ps n))
+master_call track master (negsuc n) ps = None
 
 abbrev pub master_in : List ℤ → Option Call
 master_in zs = master_call (row_number zs 1) (row_number zs 2) (row_number zs 3) (λ n. pairs_in n zs)
@@ -92,11 +89,6 @@ master_in zs = master_call (row_number zs 1) (row_number zs 2) (row_number zs 3)
 -- the call of the row that numbers begin with
 abbrev pub call_at : List ℤ → Option Call
 call_at zs = cond (is_code master_code (row_number zs 0)) (master_in zs) (plain_at zs)
-
--- the call that the code has read, if it is one
-abbrev pub coded_as : Coded → Option Call
-coded_as (coded.Call c) = some c
-coded_as coded.Nothing = none
 
 -- the first n rows
 unfoldable pub rows_of : ℕ → List ℤ → List (Option Call)
@@ -106,8 +98,8 @@ rows_of (suc n) zs = call_at zs ∷ rows_of n (drop call_width zs)
 -- the calls among rows
 abbrev pub calls_in : List (Option Call) → List Call
 calls_in [] = []
-calls_in (none ∷ ls) = calls_in ls
-calls_in (some c ∷ ls) = c ∷ calls_in ls
+calls_in (None ∷ ls) = calls_in ls
+calls_in (Some c ∷ ls) = c ∷ calls_in ls
 
 -- ---- a reply
 
@@ -173,16 +165,16 @@ numbers_in (x ∷ xs) = numbers_of x ++ numbers_in xs
 -- the replies to all rows, from those to the calls among them: a row that is no call is refused 9
 abbrev pub answers_to : List (Option Call) → List Reply → List Reply
 answers_to [] xs = []
-answers_to (none ∷ ls) xs = refused 9 ∷ answers_to ls xs
-answers_to (some c ∷ ls) [] = []
-answers_to (some c ∷ ls) (x ∷ xs) = x ∷ answers_to ls xs
+answers_to (None ∷ ls) xs = refused 9 ∷ answers_to ls xs
+answers_to (Some c ∷ ls) [] = []
+answers_to (Some c ∷ ls) (x ∷ xs) = x ∷ answers_to ls xs
 
 -- ---- a row
 
 -- what a row does with a board and its log: a row that is no call is refused 9 and leaves them
 unfoldable pub row_does : Option Call → World Board → Did Reply (World Board)
-row_does none w = record { answer = refused 9; left = w }
-row_does (some c) w = does c w
+row_does None w = record { answer = refused 9; left = w }
+row_does (Some c) w = does c w
 
 -- all answers, and the board and log that the last row leaves
 abbrev pub rows_do : List (Option Call) → World Board → All Reply (World Board)

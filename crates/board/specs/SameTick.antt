@@ -1,7 +1,6 @@
 -- A tick apart from the log (02, 2.2): "what a taken tick writes, and the board after it but for held, are the same for every log and
 -- count held".
-use Rattle.std.specs.Prelude.{ℕ, ◌+◌, ◌*◌, ◌≡◌, List}
-use Rattle.std.proofs.Math.Option.{none}
+use Rattle.std.specs.Prelude.{ℕ, ◌+◌, ◌*◌, ◌≡◌, List, None}
 use Rattle.std.proofs.lemmas.List.Edits.{sets}
 use Rattle.board.specs.declared.Board.{Board}
 use Rattle.board.specs.Log.{record_width}
@@ -10,7 +9,7 @@ use Rattle.board.specs.Call.{held_at, gridstep, world}
 
 -- with h records held in this log, the next tick of the board b is taken: neither the clock nor the log stops it
 abbrev pub IsTaken : Board → ℕ → List ℕ → Type 0
-IsTaken b h log = w-halt gridstep (world (held_at h b) log) ≡ none
+IsTaken b h log = w-halt gridstep (world (held_at h b) log) ≡ None
 
 -- from w to v the log is written behind the held records and nowhere else
 abbrev pub OnlyBehind : World Board → World Board → Type 0

@@ -1,24 +1,26 @@
 -- The calls that set a board up, and clear (01, "Other calls" and "Turned down"), each as its guards in order.
-use Rattle.std.specs.Prelude.{ℕ, ◌+◌, ◌^◌, List, [], ◌∷◌, Bool, true, false, cond, not, ◌&&◌, set, get_or, length, ℤ, pos, ltb, leb, eqb}
+use Rattle.std.specs.Prelude.{ℕ, ◌+◌, ◌^◌, List, [], ◌∷◌, Bool, true, false, cond, not, ◌&&◌, set, get_or, length, ℤ, pos, ltb, leb, eqb, Option, Some, None, Result, Ok, Err}
 use Rattle.track.specs.declared.Track.{Track}
 use Rattle.track.specs.declared.Coordinate.{Coordinate}
 use Rattle.track.specs.declared.setup.Change.{Change}
-use Rattle.track.specs.declared.setup.Changed.{Changed}
-use Rattle.track.specs.declared.setup.Answer.TheVariants.{Accepted, Refused}
+use Rattle.track.specs.Setup.{Changed}
+use Rattle.track.specs.declared.refusal.Refusal.{Refusal}
+use Rattle.track.specs.Refusal.{Answer, Accepted, Refused, number_of}
 use Rattle.track.specs.Rule.{STOPPED, new_track, event_most, threshold_count, threshold_most}
 use Rattle.track.specs.Follow.{following}
-use Rattle.track.specs.declared.number.Natural.{Natural}
-use Rattle.track.specs.Number.{natural_of, coordinate_of, within, on_natural, on_place}
+use Rattle.track.specs.Number.{natural_of, coordinate_of, within, on_some}
 use Rattle.track.specs.Setup.{changed_by, settled}
 use Rattle.board.specs.declared.Board.{Board}
 use Rattle.board.specs.declared.points.Point.{Point}
 use Rattle.board.specs.declared.points.Points.{Points}
-use Rattle.board.specs.declared.points.Stored.{Stored}
-use Rattle.board.specs.declared.setup.Outcome.{Outcome}
-use Rattle.board.specs.declared.setup.Described.{Described}
-use Rattle.board.specs.declared.setup.Described.TheVariants as described
+use Rattle.board.specs.Points.{Stored}
 use Rattle.board.specs.Points.{key, key_of, info_of, ascending_from, stored_in, dropped_from}
 use Rattle.board.specs.Board.{track_at, is_present, allowed_test, unbroken_test, found_in}
+
+-- the answer to a call, and the board after it
+pub record Outcome : Type 0 where
+  pub answer : Answer
+  pub board : Board
 
 -- a refusal carries its number alone, the board equal to before
 abbrev pub refused : ℕ → Board → Outcome
@@ -26,6 +28,11 @@ refused n b = record { answer = Refused n; board = b }
 
 abbrev pub accepted : Board → Outcome
 accepted b = record { answer = Accepted; board = b }
+
+-- what the result of a call on a board says: the board after it, or why it is refused
+abbrev pub outcome : Board → Result Board Refusal → Outcome
+outcome b (Ok c) = accepted c
+outcome b (Err e) = refused (number_of e) b
 
 -- the board with other tracks, another word of those present, other points or another number of records held
 abbrev pub board_with : Board → List Track → ℕ → Points → ℕ → Board
@@ -38,7 +45,7 @@ on_unbroken b o = cond (unbroken_test b) o (refused 3 b)
 
 -- what a call does on a present track, with its number
 abbrev pub on_track : Board → ℤ → (ℕ → Outcome) → Outcome
-on_track b track f = on_natural (found_in b.present track) f (refused 1 b)
+on_track b track f = on_some (found_in b.present track) f (refused 1 b)
 
 -- ---- start, end, loops, repeat, direction, action, jump
 
@@ -56,10 +63,10 @@ set_up b track c = on_unbroken b (on_track b track (λ i. put_track b i (changed
 unfoldable pub add_track : Board → ℤ → ℤ → ℤ → Outcome
 add_track b number min max =
     on_unbroken b
-    (on_natural (natural_of number 0 15)
+    (on_some (natural_of number 0 15)
     (λ i. cond (is_present b.present i) (refused 6 b)
-    (on_place (coordinate_of min)
-    (λ low. on_place (coordinate_of max)
+    (on_some (coordinate_of min)
+    (λ low. on_some (coordinate_of max)
     (λ high. cond (ltb low.0 high.0)
     (accepted (board_with b (set b.tracks i (new_track low high)) (b.present + 2 ^ i) b.points b.held)) (refused 3 b))
     (refused 3 b)) (refused 3 b))) (refused 1 b))
@@ -70,27 +77,27 @@ abbrev pub point_with : ℕ → Coordinate → ℕ → ℕ → ℕ → ℕ → P
 point_with track position event wait command target =
     record { track = track; position = position; event = event; wait = wait; command = command; target = target }
 
-abbrev pub allowed_only : ℕ → Point → Described
-allowed_only present p = cond (allowed_test present p) (described.Good p) described.Bad
+abbrev pub allowed_only : ℕ → Point → Option Point
+allowed_only present p = cond (allowed_test present p) (Some p) None
 
 -- the point that the numbers of a call describe, if each is in its range and the target keeps its rule
-unfoldable pub described_by : ℕ → ℕ → Track → ℤ → ℤ → ℤ → ℤ → ℤ → Described
+unfoldable pub described_by : ℕ → ℕ → Track → ℤ → ℤ → ℤ → ℤ → ℤ → Option Point
 described_by present i owner position event wait command target =
-    on_place (within owner.min.0 owner.max.0 (coordinate_of position))
-    (λ l. on_natural (natural_of event 1 event_most)
-    (λ e. on_natural (natural_of wait 0 1)
-    (λ w. on_natural (natural_of command 0 4)
-    (λ c. on_natural (natural_of target 0 15)
-    (λ g. allowed_only present (point_with i l e w c g)) described.Bad) described.Bad) described.Bad) described.Bad) described.Bad
+    on_some (within owner.min.0 owner.max.0 (coordinate_of position))
+    (λ l. on_some (natural_of event 1 event_most)
+    (λ e. on_some (natural_of wait 0 1)
+    (λ w. on_some (natural_of command 0 4)
+    (λ c. on_some (natural_of target 0 15)
+    (λ g. allowed_only present (point_with i l e w c g)) None) None) None) None) None
 
 -- 5 a 257th point (replacing one is no new point)
 abbrev pub put_points : Board → ℕ → Stored → Outcome
 put_points b refusal s =
     cond s.done (accepted (board_with b b.tracks b.present s.points b.held)) (refused refusal b)
 
-abbrev pub on_described : Board → Described → Outcome
-on_described b (described.Good p) = put_points b 5 (stored_in b.points (key_of p) (info_of p))
-on_described b described.Bad = refused 3 b
+abbrev pub on_described : Board → Option Point → Outcome
+on_described b (Some p) = put_points b 5 (stored_in b.points (key_of p) (info_of p))
+on_described b None = refused 3 b
 
 -- 3 broken, 1 track, 2 mode (STOPPED or PAUSED), 3 a value, 5 full
 unfoldable pub set_point : Board → ℤ → ℤ → ℤ → ℤ → ℤ → ℤ → Outcome
@@ -106,16 +113,16 @@ drop_point b track position =
     on_unbroken b
     (on_track b track
     (λ i. cond (settled (track_at b.tracks i).mode)
-    (on_place (coordinate_of position) (λ l. put_points b 4 (dropped_from b.points (key i l.0))) (refused 4 b)) (refused 2 b)))
+    (on_some (coordinate_of position) (λ l. put_points b 4 (dropped_from b.points (key i l.0))) (refused 4 b)) (refused 2 b)))
 
 -- ---- master (02, 2.1)
 
 -- The numbers of the pairs come as one list, a threshold and its event in turn.
-abbrev pub is_in : Natural → Bool
-is_in n = on_natural n (λ k. true) false
+abbrev pub is_in : Option ℕ → Bool
+is_in n = on_some n (λ k. true) false
 
-abbrev pub number_in : Natural → ℕ
-number_in n = on_natural n (λ k. k) 0
+abbrev pub number_in : Option ℕ → ℕ
+number_in n = on_some n (λ k. k) 0
 
 -- the number in a place of them, if it is from 1 to the most; 0 where it is not, and where there is none
 abbrev pub number_at : List ℤ → ℕ → ℕ → ℕ

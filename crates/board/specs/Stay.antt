@@ -1,5 +1,5 @@
 -- Two numbers that move evenly, and two that go round: how long they stay in a range of drifts (02, "Followers").
-use Rattle.std.specs.Prelude.{ℕ, suc, ◌+◌, ◌*◌, ◌%◌, ◌≤◌, ◌<◌, ◌≡◌, ◌⊎◌}
+use Rattle.std.specs.Prelude.{ℕ, suc, ◌+◌, ◌*◌, ◌%◌, ◌≤◌, ◌<◌, ◌≡◌, ◌⊎◌, min}
 use Rattle.std.specs.Int.{◌∣◌}
 use Rattle.track.specs.Rule.{clock_end}
 use Rattle.track.specs.Follow.{apart}
@@ -34,6 +34,12 @@ pub record Stays (x y w g h lo hi r : ℕ) : Type 0 where
   pub small : r ≤ clock_end
   pub within : (n : ℕ) → 0 < n → n ≤ r → Between (x + n * g) (y + n * h) w lo hi
   pub exact : r < clock_end → Between (x + suc r * g) (y + suc r * h) w lo hi → ⊥
+
+-- r is the least of three: such a number of ticks, a and b
+pub record Together (x y w g h lo hi a b r : ℕ) : Type 0 where
+  pub whole : ℕ
+  pub stays : Stays x y w g h lo hi whole
+  pub least : r ≡ min (min whole a) b
 
 -- what may be asked: numbers up to a most, and no pace that steps over the numbers below lo
 pub record Asked (most x y w v lo hi : ℕ) : Type 0 where

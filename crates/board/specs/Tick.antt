@@ -1,8 +1,6 @@
 -- The tick of a board (01, "Tick of the board"), apart from the log and the number of records held.
-use Rattle.std.specs.Prelude.{ℕ, zero, suc, ◌/◌, ◌%◌, ◌+◌, ◌-◌, ◌*◌, ◌≤◌, ◌<◌, List, [], ◌∷◌, ◌++◌, Bool, true, cond, not, ◌||◌, ◌≡◌, length, set, get_or, eqb}
+use Rattle.std.specs.Prelude.{ℕ, zero, suc, ◌/◌, ◌%◌, ◌+◌, ◌-◌, ◌*◌, ◌≤◌, ◌<◌, List, [], ◌∷◌, ◌++◌, Bool, true, cond, not, ◌||◌, ◌≡◌, length, set, get_or, eqb, Option, Some, None}
 use Rattle.track.specs.declared.Track.{Track}
-use Rattle.track.specs.declared.grid.Decision.{Decision}
-use Rattle.track.specs.declared.grid.Decision.TheVariants as decision
 use Rattle.track.specs.Rule.{PLAYING, Valid, action_cell, entered, threshold_count, event_most}
 use Rattle.track.specs.Follow.{follows, judged, banded}
 use Rattle.track.specs.Grid.{grid_of}
@@ -14,7 +12,7 @@ use Rattle.board.specs.declared.tick.Stepped.{Stepped}
 use Rattle.board.specs.Points.{key, keys_of, infos_of, info_at, event_of, command_of, target_of, waits, track_count}
 use Rattle.board.specs.Replay.{Each}
 use Rattle.board.specs.Board.{track_at, is_present}
-use Rattle.board.specs.Log.{detail_unit}
+use Rattle.board.specs.Log.{detail_unit, record_width}
 
 -- ---- the members of a word
 
@@ -45,6 +43,11 @@ record_of clock track kind event detail position passes =
       passes = record { 0 = passes };
     }
 
+-- a record, if there is one
+abbrev pub listed : Option Record → List Record
+listed (Some r) = r ∷ []
+listed None = []
+
 -- kind 1, point: detail = command × 16 + target
 unfoldable pub point_records : ℕ → ℕ → ℕ → ℕ → ℕ → List Record
 point_records clock track l passes d =
@@ -70,6 +73,11 @@ unfoldable pub playing_word : ℕ → List Track → ℕ
 playing_word present [] = 0
 playing_word present (t ∷ ts) = play_bit (present % 2) t + playing_word (present / 2) ts * 2
 
+-- the same of any test of a track
+unfoldable pub word_by : (Track → Bool) → ℕ → List Track → ℕ
+word_by holds present [] = 0
+word_by holds present (t ∷ ts) = cond (holds t) (present % 2) 0 + word_by holds (present / 2) ts * 2
+
 -- ---- a tick as far as it is worked out: the tracks, the records written, the infos of the points reached
 pub record Stage : Type 0 where
   pub tracks : List Track
@@ -90,9 +98,9 @@ step_records clock i t d =
     (point_records clock i (arrival t) t.passes.0 d
     ++ change_records clock i t (played t (waits d)).mode (arrival t) (passes_at t (arrival t))) []
 
--- what a tick changes of its track, beside a number of records
-abbrev pub stepped : Track → ℕ → Stepped
-stepped t n = record { mode = t.mode; position = t.position; passes = t.passes; due = t.due; remainder = t.remainder; count = n }
+-- what a tick changes of its track
+abbrev pub stepped : Track → Stepped
+stepped t = record { mode = t.mode; position = t.position; passes = t.passes; due = t.due; remainder = t.remainder }
 
 abbrev pub reached_by : ℕ → List ℕ
 reached_by d = cond (eqb d 0) [] (d ∷ [])
@@ -114,13 +122,13 @@ step_all keys infos clock (i ∷ is) s = step_all keys infos clock is (step_memb
 
 -- Then the commands of those points run in that order on their targets by the mode grid: a change writes a mode-change
 -- record, a refused command a record of kind 3.
-unfoldable pub command_records : ℕ → ℕ → Track → Decision → List Record
-command_records clock d t (decision.Goes m) = change_records clock (target_of d) t m t.position.0 t.passes.0
-command_records clock d t decision.Refused = refusal_record clock d t ∷ []
+unfoldable pub command_records : ℕ → ℕ → Track → Option ℕ → List Record
+command_records clock d t (Some m) = change_records clock (target_of d) t m t.position.0 t.passes.0
+command_records clock d t None = refusal_record clock d t ∷ []
 
-unfoldable pub commanded : Track → Decision → Track
-commanded t (decision.Goes m) = entered t m
-commanded t decision.Refused = t
+unfoldable pub commanded : Track → Option ℕ → Track
+commanded t (Some m) = entered t m
+commanded t None = t
 
 -- what a point's command, if it has one, leaves of its target, and writes
 abbrev pub obeyed : ℕ → Track → Track
@@ -184,6 +192,10 @@ band_count present (t ∷ ts) = band_bit (present % 2) t + band_count (present /
 -- the records of a tick at most: two of each step, one of each command and one of each follower
 abbrev pub tick_most : ℕ
 tick_most = 64
+
+-- a stage that holds these bytes has room for n records more
+abbrev pub Room : ℕ → List ℕ → Type 0
+Room n bytes = length bytes + n * record_width ≤ tick_most * record_width
 
 -- ---- the tick: the playing tracks, the commands of the points reached, the followers
 unfoldable pub tick_from : List ℕ → List ℕ → ℕ → ℕ → List Track → Stage

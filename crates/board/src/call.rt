@@ -1,7 +1,8 @@
 // A call as a value, with its numbers, and what it answers.
 use crate::points::Point;
-use track::Ticks;
+use track::refusal::Refusal;
 use track::setup::Change;
+use track::{Ticks, Track};
 
 #[derive(Clone, Copy)]
 pub enum Call {
@@ -26,8 +27,9 @@ pub enum Call {
     Master(i64, i64, Pairs),
 }
 
-// Thresholds, each with its event behind it. An enum cannot hold an array; more than four are refused whatever they are,
-// so that five stand for any greater number.
+// Thresholds, each with its event behind it; more than four are refused whatever they are, so that five stand for any
+// greater number. Each holds the numbers that it means and no others: with a count beside an array of ten, calls of one
+// meaning would differ in what is behind the count, and `pairs-own` (proofs/call/Enough) would not hold.
 #[derive(Clone, Copy)]
 pub enum Pairs {
     Nothing,
@@ -38,26 +40,25 @@ pub enum Pairs {
     More(i64, i64, i64, i64, i64, i64, i64, i64, i64, i64),
 }
 
-// What an advance answers: why it ended, with the ticks taken, or a refusal's number.
+// What an advance answers: why it ended, with the ticks taken, or why it is refused. One enum of four, as 01 names it.
 #[derive(Clone, Copy)]
 pub enum Advanced {
     Done(Ticks),
     LogFull(Ticks),
     ClockEnd(Ticks),
-    Refused(u8),
+    Refused(Refusal),
 }
 
-// What a call tells. A track that is told stands beside it, since an enum cannot hold the track's array.
+// What a call tells.
 #[derive(Clone, Copy)]
 pub enum Told {
     Accepted,
-    Refused(u8),
     Done(Ticks),
     LogFull(Ticks),
     ClockEnd(Ticks),
     // Clock and held.
     Clock(Ticks, u64),
-    Track,
+    Track(Track),
     Point(Point),
     Count(u64),
 }

@@ -10,9 +10,7 @@ use crate::row::{CALL_WIDTH, REPLY_WIDTH, do_row};
 fn rows(calls: usize, replies: usize) -> usize
     ensures { result ≡ min (calls / call_width) (replies / reply_width) }
 {
-    let called = calls / CALL_WIDTH;
-    let room = replies / REPLY_WIDTH;
-    if called < room { called } else { room }
+    (calls / CALL_WIDTH).min(replies / REPLY_WIDTH)
 }
 
 // Executes an encoded list of calls from a fresh board; each call's reply goes to its row of `replies`.
@@ -21,10 +19,8 @@ pub fn run_calls(calls: &[i64], log: &mut [u8], replies: &mut [u64]) -> Board
 {
     let n = rows(calls.len(), replies.len());
     let mut b = Board::new();
-    let mut i: usize = 0;
-    while i < n {
+    for i in 0..n {
         b = do_row(b, calls, i, log, replies);
-        i += 1;
     }
     b
 }

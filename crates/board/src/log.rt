@@ -1,9 +1,10 @@
 // The log's record: its bytes, packing and unpacking.
-ghost use Rattle.std.specs.Prelude.{◌≡◌, ◌∷◌, [], ◌+◌, ◌<◌, ◌≤◌, length, take, drop};
-ghost use Rattle.board.specs.Log.{write_at, le, from_le, kind_test, twos_of, signed_of, position_of, record_bytes, record_width};
+ghost use Rattle.std.specs.Prelude.{◌≡◌, ◌+◌, ◌≤◌, length};
+ghost use Rattle.board.specs.Log.{write_at, kind_test, twos_of, signed_of, position_of, record_bytes, record_width};
+ghost use Rattle.board.specs.Log.{record_values, spelled};
 ghost use Rattle.board.specs.Log.{pack_said, pack_answer, pack_bytes, unpack_said, unpack_of};
 
-use track::setup::Answer;
+use track::refusal::Refusal;
 use track::{Coordinate, Passes, Ticks};
 
 #[derive(Clone, Copy)]
@@ -11,19 +12,13 @@ pub struct Record {
     // The clock after the tick, or as it is at a mode call.
     pub clock: Ticks,
     pub track: u8,
-    // 1 point, 2 mode change, 3 refused command, 4 band entered.
+    // 1 point, 2 mode change, 3 refused command, 4 band entered. A number: `pack` takes and refuses any other, and an enum would ask more of callers.
     pub kind: u8,
     pub event: u8,
     pub detail: u8,
     // Any position of 4 bytes in two's complement, kept as a coordinate that wraps.
     pub position: Coordinate,
     pub passes: Passes,
-}
-
-#[derive(Clone, Copy)]
-pub enum Unpacked {
-    Held(Record),
-    Refused(u8),
 }
 
 impl Record {
@@ -42,51 +37,67 @@ impl Record {
     pub const BAND: u8 = 4;
 }
 
-fn put_four(log: &mut [u8], at: usize, a: u8, b: u8, c: u8, d: u8)
-    requires { at + 4 ≤ length log.old }
-    ensures { log.new ≡ write_at log.old at (a ∷ b ∷ c ∷ d ∷ []) }
-{
-    log[at] = a;
-    log[at + 1] = b;
-    log[at + 2] = c;
-    log[at + 3] = d;
+// Its bytes, the lowest of each number first.
+impl From<Record> for [u8; Record::WIDTH] {
+    ghost from_gives = { λ r bytes. bytes ≡ record_bytes r };
+
+    fn from(r: Record) -> Self {
+        let [c0, c1, c2, c3] = r.clock.0.to_le_bytes();
+        let [w0, w1, w2, w3] = twos(r.position).to_le_bytes();
+        let [p0, p1, p2, p3] = r.passes.0.to_le_bytes();
+        [
+            c0, c1, c2, c3, r.track, r.kind, r.event, r.detail, w0, w1, w2, w3, p0, p1, p2, p3,
+        ]
+    }
 }
 
-fn put_word(log: &mut [u8], at: usize, x: u32)
-    requires { at + 4 ≤ length log.old }
-    ensures { log.new ≡ write_at log.old at (le 4 x) }
-{
-    put_four(
-        log,
-        at,
-        (x % 256) as u8,
-        (x / 256 % 256) as u8,
-        (x / 256 / 256 % 256) as u8,
-        (x / 256 / 256 / 256 % 256) as u8,
-    );
+// The record that 16 bytes spell.
+impl From<[u8; Record::WIDTH]> for Record {
+    ghost from_gives = { λ bytes r. record_values r ≡ spelled bytes };
+
+    fn from(bytes: [u8; Record::WIDTH]) -> Self {
+        let [
+            c0,
+            c1,
+            c2,
+            c3,
+            track,
+            kind,
+            event,
+            detail,
+            w0,
+            w1,
+            w2,
+            w3,
+            p0,
+            p1,
+            p2,
+            p3,
+        ] = bytes;
+        Record {
+            clock: Ticks(u32::from_le_bytes([c0, c1, c2, c3])),
+            track,
+            kind,
+            event,
+            detail,
+            position: coordinate_of(u32::from_le_bytes([w0, w1, w2, w3])),
+            passes: Passes(u32::from_le_bytes([p0, p1, p2, p3])),
+        }
+    }
 }
 
 // The position of a coordinate in two's complement.
 fn twos(c: Coordinate) -> u32
     ensures { result ≡ twos_of (position_of c) }
 {
-    let k = c.0;
-    if k < 1000000 {
-        k + 4293967296
-    } else {
-        k - 1000000
-    }
+    c.0.wrapping_sub(1000000)
 }
 
 // The coordinate of a position in two's complement.
 fn coordinate_of(w: u32) -> Coordinate
     ensures { position_of result ≡ signed_of w }
 {
-    if w < 4293967296 {
-        Coordinate(w + 1000000)
-    } else {
-        Coordinate(w - 4293967296)
-    }
+    Coordinate(w.wrapping_add(1000000))
 }
 
 // A record is written at a place where it fits.
@@ -94,79 +105,38 @@ pub(crate) fn put_record(r: Record, log: &mut [u8], at: usize)
     requires { at + record_width ≤ length log.old }
     ensures { log.new ≡ write_at log.old at (record_bytes r) }
 {
-    let clock = r.clock.0;
-    let position = r.position;
-    let passes = r.passes.0;
-    put_word(log, at, clock);
-    put_four(log, at + 4, r.track, r.kind, r.event, r.detail);
-    let word = twos(position);
-    put_word(log, at + 8, word);
-    put_word(log, at + 12, passes);
+    log[at..at + Record::WIDTH].copy_from_slice(&<[u8; Record::WIDTH]>::from(r));
 }
 
 // Whether a kind is 1 to 4.
 fn kind_known(kind: u8) -> bool
     ensures { result ≡ kind_test kind }
 {
-    if kind < Record::POINT {
-        return false;
-    }
-    kind <= Record::BAND
+    matches!(kind, Record::POINT..=Record::BAND)
 }
 
 // Packs a record at a place: refused 3 for another kind, or where its bytes do not fit there.
-pub fn pack(r: Record, bytes: &mut [u8], at: usize) -> Answer
+pub fn pack(r: Record, bytes: &mut [u8], at: usize) -> Result<(), Refusal>
     ensures answer { pack_said result ≡ pack_answer r bytes.old at }
     ensures bytes { bytes.new ≡ pack_bytes r bytes.old at }
 {
-    let kind = r.kind;
-    if !kind_known(kind) {
-        return Answer::Refused(Answer::VALUE);
-    }
-    if bytes.len() < Record::WIDTH {
-        return Answer::Refused(Answer::VALUE);
-    }
-    if bytes.len() - Record::WIDTH < at {
-        return Answer::Refused(Answer::VALUE);
+    if !kind_known(r.kind) || bytes.len().saturating_sub(at) < Record::WIDTH {
+        return Err(Refusal::Value);
     }
     put_record(r, bytes, at);
-    Answer::Accepted
-}
-
-fn wide(x: u8) -> u32
-    ensures { (result ≡ x) × (result < 256) }
-{
-    x as u32
-}
-
-fn word(s: &[u8], at: usize) -> u32
-    requires { at + 4 ≤ length s.now }
-    ensures { result ≡ from_le (take 4 (drop at s.now)) }
-{
-    wide(s[at]) + 256 * (wide(s[at + 1]) + 256 * (wide(s[at + 2]) + 256 * wide(s[at + 3])))
+    Ok(())
 }
 
 // Unpacks a record: refused 3 for another length than 16, or another kind.
-pub fn unpack(s: &[u8]) -> Unpacked
+pub fn unpack(s: &[u8]) -> Result<Record, Refusal>
     ensures { unpack_said result ≡ unpack_of s.now }
 {
-    if s.len() != Record::WIDTH {
-        return Unpacked::Refused(Answer::VALUE);
+    let Ok(bytes) = <[u8; Record::WIDTH]>::try_from(s) else {
+        return Err(Refusal::Value);
+    };
+    let r = Record::from(bytes);
+    if !kind_known(r.kind) {
+        return Err(Refusal::Value);
     }
-    let kind = s[5];
-    if !kind_known(kind) {
-        return Unpacked::Refused(Answer::VALUE);
-    }
-    let clock = Ticks(word(s, 0));
-    let position = coordinate_of(word(s, 8));
-    let passes = Passes(word(s, 12));
-    Unpacked::Held(Record {
-        clock,
-        track: s[4],
-        kind,
-        event: s[6],
-        detail: s[7],
-        position,
-        passes,
-    })
+    Ok(r)
 }

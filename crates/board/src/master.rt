@@ -2,42 +2,31 @@
 ghost use Rattle.std.specs.Prelude.{◌≡◌, ◌∷◌, [], ◌<◌};
 ghost use Rattle.track.specs.Rule.{threshold_most, event_most};
 ghost use Rattle.board.specs.Points.{track_count};
-ghost use Rattle.board.specs.Setup.{number_at, ranged_test, master_named, put_master, set_master};
+ghost use Rattle.board.specs.Setup.{number_at, ranged_test, master_named, outcome, put_master, set_master};
 
 use crate::Board;
-use crate::rules::{found, unbroken};
-use crate::setup::{Outcome, accepted, refused};
 use track::Track;
 use track::follow::pairs_kept;
-use track::number::{Natural, in_range};
-use track::setup::Answer;
+use track::number::in_range;
+use track::refusal::Refusal;
 
-// The number in a place of the pairs, if it is from 1 to the most; 0 where it is not, and where there is none.
+// The number in a place of the pairs, if it is from 1 to the most; 0 where it is not, and where there is none: that 0 is what a track's row of four holds
+// (C's layout).
 fn number_at(pairs: &[i64], at: usize, most: u32) -> u32
     ensures { result ≡ number_at pairs.now at most }
 {
-    if pairs.len() <= at {
-        return 0;
-    }
-    let Natural::In(k) = in_range(pairs[at], 1, most) else {
-        return 0;
-    };
-    k
+    let n = pairs.get(at).copied().unwrap_or(0);
+    in_range(n, 1, most).unwrap_or(0)
 }
 
 // Whether every threshold and every event is in its range.
 fn ranged(pairs: &[i64]) -> bool
     ensures { result ≡ ranged_test pairs.now }
 {
-    let mut i: usize = 0;
-    while i < pairs.len() {
-        if number_at(pairs, i, Track::THRESHOLD) == 0 {
+    for pair in pairs.chunks(2) {
+        if number_at(pair, 0, Track::THRESHOLD) == 0 || number_at(pair, 1, Track::EVENT) == 0 {
             return false;
         }
-        if number_at(pairs, i + 1, Track::EVENT) == 0 {
-            return false;
-        }
-        i += 2;
     }
     true
 }
@@ -54,11 +43,7 @@ fn thresholds_of(pairs: &[i64]) -> [u32; Track::THRESHOLDS]
     ensures { result ≡ number_at pairs.now 0 threshold_most ∷ number_at pairs.now 2 threshold_most
         ∷ number_at pairs.now 4 threshold_most ∷ number_at pairs.now 6 threshold_most ∷ [] }
 {
-    let a = number_at(pairs, 0, Track::THRESHOLD);
-    let b = number_at(pairs, 2, Track::THRESHOLD);
-    let c = number_at(pairs, 4, Track::THRESHOLD);
-    let d = number_at(pairs, 6, Track::THRESHOLD);
-    [a, b, c, d]
+    [0, 2, 4, 6].map(|at| number_at(pairs, at, Track::THRESHOLD))
 }
 
 // Their events: the numbers between.
@@ -66,11 +51,7 @@ fn events_of(pairs: &[i64]) -> [u16; Track::THRESHOLDS]
     ensures { result ≡ number_at pairs.now 1 event_most ∷ number_at pairs.now 3 event_most
         ∷ number_at pairs.now 5 event_most ∷ number_at pairs.now 7 event_most ∷ [] }
 {
-    let a = event_at(pairs, 1);
-    let b = event_at(pairs, 3);
-    let c = event_at(pairs, 5);
-    let d = event_at(pairs, 7);
-    [a, b, c, d]
+    [1, 3, 5, 7].map(|at| event_at(pairs, at))
 }
 
 // The master that is kept: 0 where there are no pairs.
@@ -78,66 +59,42 @@ fn master_named(master: u32, pairs: &[i64]) -> u8
     requires { master < track_count }
     ensures { result ≡ master_named master pairs.now }
 {
-    if pairs.len() == 0 {
-        return 0;
-    }
-    master as u8
+    if pairs.is_empty() { 0 } else { master as u8 }
 }
 
 // The master of a present track is set to another present one.
-fn put_master(board: Board, track: u32, master: u32, pairs: &[i64]) -> Outcome
+fn put_master(mut board: Board, track: u32, master: u32, pairs: &[i64]) -> Result<Board, Refusal>
     requires { (track < track_count) × (master < track_count) }
-    ensures { result ≡ put_master board track master pairs.now }
+    ensures { outcome board result ≡ put_master board track master pairs.now }
 {
-    let tracks = board.tracks;
     let at = track as usize;
-    let t = tracks[at];
-    let mode = t.mode;
-    if mode != Track::STOPPED {
-        return refused(Answer::MODE, board);
+    if board.tracks[at].mode != Track::STOPPED {
+        return Err(Refusal::Mode);
     }
-    if track == master {
-        return refused(Answer::VALUE, board);
-    }
-    if !ranged(pairs) {
-        return refused(Answer::VALUE, board);
+    if track == master || !ranged(pairs) {
+        return Err(Refusal::Value);
     }
     if Track::PAIRED < pairs.len() {
-        return refused(Answer::RISING, board);
+        return Err(Refusal::Rising);
     }
     let thresholds = thresholds_of(pairs);
     let events = events_of(pairs);
     if !pairs_kept(thresholds, events) {
-        return refused(Answer::RISING, board);
+        return Err(Refusal::Rising);
     }
-    let after = t.following(master_named(master, pairs), thresholds, events);
-    let mut next = board;
-    next.tracks[at] = after;
-    accepted(next)
+    let master = master_named(master, pairs);
+    board.tracks[at] = board.tracks[at].following(master, thresholds, events);
+    Ok(board)
 }
 
 impl Board {
     // A track gets a master, or none where there are no pairs, which are a threshold and its event in turn.
-    pub fn set_master(self, track: i64, master: i64, pairs: &[i64]) -> Outcome
-        ensures { result ≡ set_master self track master pairs.now }
+    pub fn set_master(self, track: i64, master: i64, pairs: &[i64]) -> Result<Board, Refusal>
+        ensures { outcome self result ≡ set_master self track master pairs.now }
     {
-        let tracks = self.tracks;
-        if !unbroken(
-            tracks,
-            self.present,
-            self.clock,
-            &self.points.keys,
-            &self.points.infos,
-            self.points.count,
-        ) {
-            return refused(Answer::VALUE, self);
-        }
-        let Natural::In(i) = found(self.present, track) else {
-            return refused(Answer::TRACK, self);
-        };
-        let Natural::In(m) = found(self.present, master) else {
-            return refused(Answer::TRACK, self);
-        };
+        self.checked()?;
+        let i = self.found(track)?;
+        let m = self.found(master)?;
         put_master(self, i, m, pairs)
     }
 }

@@ -1,8 +1,7 @@
-// The board's points: keys strictly ascending, and beside each key what the point does. Rows of numbers
-// can be lent, so that no lookup copies them.
-ghost use Rattle.std.specs.Prelude.{◌≡◌, true, ◌+◌, ◌*◌, ◌≤◌, ◌<◌, length, take};
+// The board's points: keys strictly ascending, and beside each key what the point does.
+ghost use Rattle.std.specs.Prelude.{◌≡◌, ◌+◌, ◌*◌, ◌≤◌, ◌<◌, length};
 ghost use Rattle.track.specs.Rule.{coordinate_last};
-ghost use Rattle.board.specs.Points.{point_most, stride, keys_of, key_of, info_of, point_of, ascending_from, first_from, insert_row, remove_row, info_at, stored_in};
+ghost use Rattle.board.specs.Points.{point_most, stride, keys_of, infos_of, key_of, info_of, point_of, PointsRule, first_from, insert_row, remove_row, info_at, stored_as, stored_in};
 ghost use Rattle.board.specs.Points.{dropped_from, count_of, between, find_first, find_last, nearest, key, no_points, track_count, key_end, info_end};
 
 use track::Coordinate;
@@ -19,6 +18,7 @@ pub struct Point {
     pub target: u8,
 }
 
+// Two rows and a count by C's layout; an info is never 0, so that 0 stands for no point.
 #[repr(C)]
 #[derive(Clone, Copy)]
 pub struct Points {
@@ -27,25 +27,19 @@ pub struct Points {
     pub count: usize,
 }
 
-// The points after a change, and whether it was made.
-#[derive(Clone, Copy)]
-pub struct Stored {
-    pub done: bool,
-    pub points: Points,
-}
-
-// The position of a nearest point, or none.
-#[derive(Clone, Copy)]
-pub enum Near {
-    At(Coordinate),
-    Nothing,
-}
-
-// What stands at a position, 0 for nothing, and the nearest point further on.
+// What stands at a position, 0 for nothing, and the nearest point further on. The info is the number that C's rows hold, and the rule's own `info_at`
+// gives 0 for no point: a tick carries it on as it stands there.
 #[derive(Clone, Copy)]
 pub struct Lookup {
     pub info: u32,
-    pub near: Near,
+    pub near: Option<Coordinate>,
+}
+
+// The points of a board that keeps its rules, lent, so that no lookup copies them.
+#[derive(Clone, Copy)]
+pub(crate) struct OrderedPoints<'a> {
+    pub(crate) points: &'a Points,
+    ghost rule: { PointsRule points.now },
 }
 
 impl Points {
@@ -69,138 +63,14 @@ impl Points {
         }
     }
 
-    // The index of the first key that is at least `wanted`, or `n` where there is none.
-    fn first_from(keys: &[u32], n: usize, wanted: u32) -> usize
-        requires n_in_bounds { n ≤ length keys.now }
-        requires keys_value { ascending_from 0 (take n keys.now) ≡ true }
-        ensures { result ≡ first_from (take n keys.now) wanted }
-    {
-        let mut low: usize = 0;
-        let mut high = n;
-        while low < high {
-            let middle = low + (high - low) / 2;
-            if keys[middle] < wanted {
-                low = middle + 1;
-            } else {
-                high = middle;
-            }
-        }
-        low
-    }
-
-    // The info beside a key, 0 where there is none.
-    pub(crate) fn info_at<'a>(keys: &'a [u32], infos: &'a [u32], n: usize, wanted: u32) -> u32
-        requires n_in_bounds { (n ≤ length keys.now) × (n ≤ length infos.now) }
-        requires keys_value { ascending_from 0 (take n keys.now) ≡ true }
-        ensures { result ≡ info_at wanted (take n keys.now) (take n infos.now) }
-    {
-        let i = Points::first_from(keys, n, wanted);
-        if n <= i {
-            return 0;
-        }
-        let found = keys[i];
-        if found != wanted {
-            return 0;
-        }
-        infos[i]
-    }
-
-    // How many keys stand from `from` on and below `past`.
-    pub(crate) fn count_between(keys: &[u32], n: usize, from: u32, past: u32) -> usize
-        requires n_in_bounds { n ≤ length keys.now }
-        requires keys_value { ascending_from 0 (take n keys.now) ≡ true }
-        ensures { result ≡ count_of (between from past) (take n keys.now) }
-    {
-        if past <= from {
-            return 0;
-        }
-        let i = Points::first_from(keys, n, from);
-        let j = Points::first_from(keys, n, past);
-        j - i
-    }
-
-    // The first key from `from` on and below `past`, as a coordinate of the track.
-    fn first_between(keys: &[u32], n: usize, track: u32, from: u32, past: u32) -> Near
-        requires n_in_bounds { n ≤ length keys.now }
-        requires keys_value { ascending_from 0 (take n keys.now) ≡ true }
-        requires stride_bound { track * stride ≤ from }
-        requires track_lt_track_count { track < track_count }
-        ensures { result ≡ find_first (between from past) track (take n keys.now) }
-    {
-        let i = Points::first_from(keys, n, from);
-        if n <= i {
-            return Near::Nothing;
-        }
-        let k = keys[i];
-        if past <= k {
-            return Near::Nothing;
-        }
-        Near::At(Coordinate(k - track * Points::STRIDE))
-    }
-
-    // The last key from `from` on and below `past`, as a coordinate of the track.
-    fn last_between(keys: &[u32], n: usize, track: u32, from: u32, past: u32) -> Near
-        requires n_in_bounds { n ≤ length keys.now }
-        requires keys_value { ascending_from 0 (take n keys.now) ≡ true }
-        requires stride_bound { track * stride ≤ from }
-        requires track_lt_track_count { track < track_count }
-        ensures { result ≡ find_last (between from past) track (take n keys.now) }
-    {
-        let i = Points::first_from(keys, n, past);
-        if i == 0 {
-            return Near::Nothing;
-        }
-        let k = keys[i - 1];
-        if k < from {
-            return Near::Nothing;
-        }
-        Near::At(Coordinate(k - track * Points::STRIDE))
-    }
-
-    // What stands at a position of a track, and the nearest point strictly further on in a direction, within start to end.
-    pub(crate) fn look_up<'a>(
-        keys: &'a [u32],
-        infos: &'a [u32],
-        n: usize,
-        track: u32,
-        position: Coordinate,
-        backward: bool,
-        start: Coordinate,
-        end: Coordinate,
-    ) -> Lookup
-        requires n_in_bounds { (n ≤ length keys.now) × (n ≤ length infos.now) }
-        requires keys_value { ascending_from 0 (take n keys.now) ≡ true }
-        requires track_lt_track_count { (track < track_count) × (position.0 ≤ coordinate_last) × (start.0 ≤ coordinate_last) × (end.0 ≤ coordinate_last) }
-        ensures info { result.info ≡ info_at (key track position.0) (take n keys.now) (take n infos.now) }
-        ensures near { result.near ≡ nearest backward track position.0 start.0 end.0 (take n keys.now) }
-    {
-        let base = track * Points::STRIDE;
-        let here = base + position.0;
-        let info = Points::info_at(keys, infos, n, here);
-        if backward {
-            let low = base + start.0;
-            let near = Points::last_between(keys, n, track, low, here);
-            return Lookup { info, near };
-        }
-        let past = base + end.0 + 1;
-        let near = Points::first_between(keys, n, track, here + 1, past);
-        Lookup { info, near }
-    }
-
     // Puts `v` at `at`, and moves what stood from there to `n` one place up.
     fn insert_at(row: &mut [u32; Points::MOST], n: usize, at: usize, v: u32)
         requires { (at ≤ n) × (n < point_most) × (length row.old ≡ point_most) }
         ensures row_len { length row.new ≡ point_most }
         ensures row_after { row.new ≡ insert_row n at v row.old }
     {
-        let mut carried = v;
-        let mut j = at;
-        while j <= n {
-            let next = row[j];
-            row[j] = carried;
-            carried = next;
-            j = j + 1;
-        }
+        row.copy_within(at..n, at + 1);
+        row[at] = v;
     }
 
     // Takes out what stands at `at`, and moves what stood above it, up to `n`, one place down.
@@ -209,66 +79,141 @@ impl Points {
         ensures row_len { length row.new ≡ point_most }
         ensures row_after { row.new ≡ remove_row n at row.old }
     {
-        let last = n - 1;
-        let mut j = at;
-        while j < last {
-            row[j] = row[j + 1];
-            j = j + 1;
-        }
+        row.copy_within(at + 1..n, at);
     }
 
-    // Stores a point, or another info at its key.
-    pub(crate) fn stored(self, wanted: u32, info: u32) -> Stored
-        requires count_le_point_most { self.count ≤ point_most }
-        requires self_value { ascending_from 0 (keys_of self) ≡ true }
-        ensures { result ≡ stored_in self wanted info }
+    // Stores a point, or another info at its key; none where there is no room for one more.
+    pub(crate) fn stored(mut self, wanted: u32, info: u32) -> Option<Points>
+        requires rule { PointsRule self }
+        ensures { stored_as self result ≡ stored_in self wanted info }
     {
         let n = self.count;
-        let i = Points::first_from(&self.keys, n, wanted);
-        let mut points = self;
-        if i < n {
-            if points.keys[i] == wanted {
-                points.infos[i] = info;
-                return Stored { done: true, points };
-            }
+        let i = OrderedPoints { points: &self }.first_from(wanted);
+        if i < n && self.keys[i] == wanted {
+            self.infos[i] = info;
+            return Some(self);
         }
         if Points::MOST <= n {
-            return Stored {
-                done: false,
-                points: self,
-            };
+            return None;
         }
-        Points::insert_at(&mut points.keys, n, i, wanted);
-        Points::insert_at(&mut points.infos, n, i, info);
-        points.count = n + 1;
-        Stored { done: true, points }
+        Points::insert_at(&mut self.keys, n, i, wanted);
+        Points::insert_at(&mut self.infos, n, i, info);
+        self.count = n + 1;
+        Some(self)
     }
 
-    // Drops the point with a key, if there is one.
-    pub(crate) fn dropped(self, wanted: u32) -> Stored
-        requires count_le_point_most { self.count ≤ point_most }
-        requires self_value { ascending_from 0 (keys_of self) ≡ true }
-        ensures { result ≡ dropped_from self wanted }
+    // Drops the point with a key; none where there is no such point.
+    pub(crate) fn dropped(mut self, wanted: u32) -> Option<Points>
+        requires rule { PointsRule self }
+        ensures { stored_as self result ≡ dropped_from self wanted }
     {
         let n = self.count;
-        let i = Points::first_from(&self.keys, n, wanted);
-        if n <= i {
-            return Stored {
-                done: false,
-                points: self,
-            };
+        let i = OrderedPoints { points: &self }.first_from(wanted);
+        if n <= i || self.keys[i] != wanted {
+            return None;
         }
-        let mut points = self;
-        if points.keys[i] != wanted {
-            return Stored {
-                done: false,
-                points: self,
-            };
+        Points::remove_at(&mut self.keys, n, i);
+        Points::remove_at(&mut self.infos, n, i);
+        self.count = n - 1;
+        Some(self)
+    }
+}
+
+impl<'a> OrderedPoints<'a> {
+    // The index of the first key that is at least `wanted`, or the count where there is none.
+    fn first_from(self, wanted: u32) -> usize
+        ensures { result ≡ first_from (keys_of self.entry.points.now) wanted }
+    {
+        let keys = &self.points.keys[..self.points.count];
+        keys.partition_point(|k| *k < wanted)
+    }
+
+    // The info beside a key, 0 where there is none.
+    pub(crate) fn info_at(self, wanted: u32) -> u32
+        ensures { result ≡ info_at wanted (keys_of self.entry.points.now) (infos_of self.entry.points.now) }
+    {
+        let i = self.first_from(wanted);
+        if self.points.count <= i {
+            return 0;
         }
-        Points::remove_at(&mut points.keys, n, i);
-        Points::remove_at(&mut points.infos, n, i);
-        points.count = n - 1;
-        Stored { done: true, points }
+        let found = self.points.keys[i];
+        if found != wanted {
+            return 0;
+        }
+        self.points.infos[i]
+    }
+
+    // How many keys stand from `from` on and below `past`.
+    pub(crate) fn count_between(self, from: u32, past: u32) -> usize
+        ensures { result ≡ count_of (between from past) (keys_of self.entry.points.now) }
+    {
+        if past <= from {
+            return 0;
+        }
+        let i = self.first_from(from);
+        let j = self.first_from(past);
+        j - i
+    }
+
+    // The first key from `from` on and below `past`, as a coordinate of the track. It and the next look to either side of `first_from`, so that one
+    // function for both would ask the side at each step.
+    fn first_between(self, track: u32, from: u32, past: u32) -> Option<Coordinate>
+        requires stride_bound { track * stride ≤ from }
+        requires track_lt_track_count { track < track_count }
+        ensures { result ≡ find_first (between from past) track (keys_of self.entry.points.now) }
+    {
+        let i = self.first_from(from);
+        if self.points.count <= i {
+            return None;
+        }
+        let k = self.points.keys[i];
+        if past <= k {
+            return None;
+        }
+        Some(Coordinate(k - track * Points::STRIDE))
+    }
+
+    // The last key from `from` on and below `past`, as a coordinate of the track.
+    fn last_between(self, track: u32, from: u32, past: u32) -> Option<Coordinate>
+        requires stride_bound { track * stride ≤ from }
+        requires track_lt_track_count { track < track_count }
+        ensures { result ≡ find_last (between from past) track (keys_of self.entry.points.now) }
+    {
+        let i = self.first_from(past);
+        if i == 0 {
+            return None;
+        }
+        let k = self.points.keys[i - 1];
+        if k < from {
+            return None;
+        }
+        Some(Coordinate(k - track * Points::STRIDE))
+    }
+
+    // What stands at a position of a track, and the nearest point strictly further on in a direction, within start to end.
+    pub(crate) fn look_up(
+        self,
+        track: u32,
+        position: Coordinate,
+        backward: bool,
+        start: Coordinate,
+        end: Coordinate,
+    ) -> Lookup
+        requires track_lt_track_count { (track < track_count) × (position.0 ≤ coordinate_last) × (start.0 ≤ coordinate_last) × (end.0 ≤ coordinate_last) }
+        ensures info { result.info ≡ info_at (key track position.0) (keys_of self.entry.points.now) (infos_of self.entry.points.now) }
+        ensures near { result.near ≡ nearest backward track position.0 start.0 end.0 (keys_of self.entry.points.now) }
+    {
+        let base = track * Points::STRIDE;
+        let here = base + position.0;
+        let info = self.info_at(here);
+        if backward {
+            let low = base + start.0;
+            let near = self.last_between(track, low, here);
+            return Lookup { info, near };
+        }
+        let past = base + end.0 + 1;
+        let near = self.first_between(track, here + 1, past);
+        Lookup { info, near }
     }
 }
 

@@ -1,20 +1,20 @@
 // Calls and replies as rows of numbers, and a call done by its row.
 ghost use Rattle.std.specs.Prelude.{◌≡◌, ◌+◌, ◌*◌, ◌≤◌, length, drop, take, ◌∷◌, []};
-ghost use Rattle.board.specs.Row.{coded_as, call_of, call_at, padded, track_numbers, point_numbers, numbers_of, row_does, RowDone, call_width, reply_width};
-ghost use Rattle.board.specs.Row.{cells_at, master_at, rate_at, pairs_from, pairs_in, master_in, plain_at};
-ghost use Rattle.track.specs.Rule.{threshold_count};
+ghost use Rattle.board.specs.Row.{call_of, call_at, padded, track_numbers, point_numbers, numbers_of, row_does, RowDone, call_width, reply_width};
+ghost use Rattle.board.specs.Row.{pairs_in, master_in, plain_at};
 ghost use Rattle.board.specs.Log.{write_at};
-ghost use Rattle.board.specs.Call.{track_values, point_values, reply_of, Gives, world, refused};
+ghost use Rattle.board.specs.Call.{track_values, point_values, reply_of, Gives, world};
 
 use crate::Board;
 use crate::apply::{Applied, apply};
 use crate::call::{Call, Pairs, Told};
 use crate::points::Point;
-use track::number::{Natural, capped, in_range};
-use track::setup::{Answer, Change};
-use track::{Coordinate, Track};
+use track::Track;
+use track::number::{capped, in_range};
+use track::refusal::Refusal;
+use track::setup::Change;
 
-// The codes of a master call, which only a row has, and of a rate call, the last one.
+// The codes of a master call, which only a row has, and of a rate call, the last one. C writes the rows: their codes are numbers.
 const MASTER: u32 = 21;
 
 const RATE: u32 = 22;
@@ -25,66 +25,46 @@ const PAIRS: u32 = Track::THRESHOLDS as u32 + 1;
 // Numbers of a call's row: the code, the track, the master and the number of pairs, then the pairs.
 pub const CALL_WIDTH: usize = 4 + 2 * (Track::THRESHOLDS + 1);
 
-// What a row comes to.
-#[derive(Clone, Copy)]
-pub enum Coded {
-    Call(Call),
-    Nothing,
-}
-
 // The call of a row: its code, and six numbers.
-pub fn call_of(code: i64, a: i64, b: i64, c: i64, d: i64, e: i64, f: i64) -> Coded
-    ensures { coded_as result ≡ call_of code a b c d e f }
+pub fn call_of(code: i64, a: i64, b: i64, c: i64, d: i64, e: i64, f: i64) -> Option<Call>
+    ensures { result ≡ call_of code a b c d e f }
 {
-    let Natural::In(n) = in_range(code, 1, RATE) else {
-        return Coded::Nothing;
-    };
+    let n = in_range(code, 1, RATE)?;
     if n == RATE {
-        return Coded::Call(Call::SetUp(a, Change::Rate(b, c)));
+        return Some(Call::SetUp(a, Change::Rate(b, c)));
     }
     if n == MASTER {
-        return Coded::Nothing;
+        return None;
     }
     match n {
-        1 => Coded::Call(Call::AddTrack(a, b, c)),
-        2 => Coded::Call(Call::SetUp(a, Change::Start(b))),
-        3 => Coded::Call(Call::SetUp(a, Change::End(b))),
-        4 => Coded::Call(Call::SetUp(a, Change::Loops(b))),
-        5 => Coded::Call(Call::SetUp(a, Change::Repeat(b))),
-        6 => Coded::Call(Call::SetUp(a, Change::Direction(b))),
-        7 => Coded::Call(Call::SetPoint(a, b, c, d, e, f)),
-        8 => Coded::Call(Call::DropPoint(a, b)),
-        9 => Coded::Call(Call::SetUp(a, Change::Action(b, c, d))),
-        10 => Coded::Call(Call::SetUp(a, Change::Jump(b))),
-        11 => Coded::Call(Call::Play(a)),
-        12 => Coded::Call(Call::Pause(a)),
-        13 => Coded::Call(Call::Resume(a)),
-        14 => Coded::Call(Call::Stop(a)),
-        15 => Coded::Call(Call::Advance(a)),
-        16 => Coded::Call(Call::Clear),
-        17 => Coded::Call(Call::Clock),
-        18 => Coded::Call(Call::Track(a)),
-        19 => Coded::Call(Call::Point(a, b)),
-        _ => Coded::Call(Call::PointCount(a, b, c)),
+        1 => Some(Call::AddTrack(a, b, c)),
+        2 => Some(Call::SetUp(a, Change::Start(b))),
+        3 => Some(Call::SetUp(a, Change::End(b))),
+        4 => Some(Call::SetUp(a, Change::Loops(b))),
+        5 => Some(Call::SetUp(a, Change::Repeat(b))),
+        6 => Some(Call::SetUp(a, Change::Direction(b))),
+        7 => Some(Call::SetPoint(a, b, c, d, e, f)),
+        8 => Some(Call::DropPoint(a, b)),
+        9 => Some(Call::SetUp(a, Change::Action(b, c, d))),
+        10 => Some(Call::SetUp(a, Change::Jump(b))),
+        11 => Some(Call::Play(a)),
+        12 => Some(Call::Pause(a)),
+        13 => Some(Call::Resume(a)),
+        14 => Some(Call::Stop(a)),
+        15 => Some(Call::Advance(a)),
+        16 => Some(Call::Clear),
+        17 => Some(Call::Clock),
+        18 => Some(Call::Track(a)),
+        19 => Some(Call::Point(a, b)),
+        _ => Some(Call::PointCount(a, b, c)),
     }
 }
 
-// So many of five pairs; five or more are more than four.
-fn pairs_of(
-    n: u32,
-    a: i64,
-    b: i64,
-    c: i64,
-    d: i64,
-    e: i64,
-    f: i64,
-    g: i64,
-    h: i64,
-    i: i64,
-    j: i64,
-) -> Pairs
-    ensures { result ≡ pairs_from n a b c d e f g h i j }
+// So many of a row's five pairs; five or more are more than four.
+fn pairs_of(row: [i64; CALL_WIDTH], n: u32) -> Pairs
+    ensures { result ≡ pairs_in n row }
 {
+    let [_, _, _, _, a, b, c, d, e, f, g, h, i, j] = row;
     match n {
         0 => Pairs::Nothing,
         1 => Pairs::One(a, b),
@@ -95,63 +75,34 @@ fn pairs_of(
     }
 }
 
-// The pairs of a row that begins at a place, so many of them.
-fn pairs_at(calls: &[i64], at: usize, n: u32) -> Pairs
-    requires { at + call_width ≤ length calls.now }
-    ensures { result ≡ pairs_in n (drop at calls.now) }
+// The master call of a row.
+fn master_of(row: [i64; CALL_WIDTH]) -> Option<Call>
+    ensures { result ≡ master_in row }
 {
-    pairs_of(
-        n,
-        calls[at + 4],
-        calls[at + 5],
-        calls[at + 6],
-        calls[at + 7],
-        calls[at + 8],
-        calls[at + 9],
-        calls[at + 10],
-        calls[at + 11],
-        calls[at + 12],
-        calls[at + 13],
-    )
+    let [_, track, master, count, ..] = row;
+    let n = capped(count, PAIRS)?;
+    Some(Call::Master(track, master, pairs_of(row, n)))
 }
 
-// The master call of a row that begins at a place.
-fn master_at(calls: &[i64], at: usize) -> Coded
-    requires { at + call_width ≤ length calls.now }
-    ensures { coded_as result ≡ master_in (drop at calls.now) }
+// Any other call of a row.
+fn plain_of(row: [i64; CALL_WIDTH]) -> Option<Call>
+    ensures { result ≡ plain_at row }
 {
-    let Natural::In(n) = capped(calls[at + 3], PAIRS) else {
-        return Coded::Nothing;
-    };
-    let pairs = pairs_at(calls, at, n);
-    Coded::Call(Call::Master(calls[at + 1], calls[at + 2], pairs))
-}
-
-// Any other call of a row that begins at a place.
-fn plain_at(calls: &[i64], at: usize) -> Coded
-    requires { at + call_width ≤ length calls.now }
-    ensures { coded_as result ≡ plain_at (drop at calls.now) }
-{
-    call_of(
-        calls[at],
-        calls[at + 1],
-        calls[at + 2],
-        calls[at + 3],
-        calls[at + 4],
-        calls[at + 5],
-        calls[at + 6],
-    )
+    let [code, a, b, c, d, e, f, ..] = row;
+    call_of(code, a, b, c, d, e, f)
 }
 
 // The call of row i.
-fn call_at(calls: &[i64], i: usize) -> Coded
+fn call_at(calls: &[i64], i: usize) -> Option<Call>
     requires { i * call_width + call_width ≤ length calls.now }
-    ensures { coded_as result ≡ call_at (drop (i * call_width) calls.now) }
+    ensures { result ≡ call_at (drop (i * call_width) calls.now) }
 {
     let at = i * CALL_WIDTH;
-    match in_range(calls[at], MASTER, MASTER) {
-        Natural::In(_) => master_at(calls, at),
-        Natural::Outside => plain_at(calls, at),
+    let mut row = [0; CALL_WIDTH];
+    row.copy_from_slice(&calls[at..at + CALL_WIDTH]);
+    match in_range(row[0], MASTER, MASTER) {
+        Some(_) => master_of(row),
+        None => plain_of(row),
     }
 }
 
@@ -172,198 +123,108 @@ const RATE_AT: usize = EVENTS_AT + Track::THRESHOLDS;
 // How many numbers of its row a track has, the kind among them.
 pub const TRACK_WIDTH: usize = RATE_AT + 3;
 
-fn wide(x: u8) -> u64
-    ensures { result ≡ x }
+// Numbers go to a place of a row where they fit.
+fn put_row(numbers: &[u64], row: &mut [u64], at: usize)
+    requires { at + length numbers.now ≤ length row.old }
+    ensures { row.new ≡ write_at row.old at numbers.now }
 {
-    x as u64
+    row[at..at + numbers.len()].copy_from_slice(numbers);
 }
 
-fn long(x: u32) -> u64
-    ensures { result ≡ x }
+// The row that begins with numbers, and is 0 behind them.
+fn padded(numbers: &[u64]) -> [u64; REPLY_WIDTH]
+    requires { length numbers.now ≤ reply_width }
+    ensures { result ≡ padded numbers.now }
 {
-    x as u64
-}
-
-// A reply of a kind and at most two numbers.
-fn short_row(kind: u64, a: u64, b: u64) -> [u64; REPLY_WIDTH]
-    ensures { result ≡ padded (kind ∷ a ∷ b ∷ []) }
-{
-    let mut row = [0u64; REPLY_WIDTH];
-    row[0] = kind;
-    row[1] = a;
-    row[2] = b;
+    let mut row = [0; REPLY_WIDTH];
+    row[..numbers.len()].copy_from_slice(numbers);
     row
 }
 
 fn point_row(p: Point) -> [u64; REPLY_WIDTH]
     ensures { result ≡ padded (7 ∷ point_numbers (point_values p)) }
 {
-    let mut row = [0u64; REPLY_WIDTH];
-    row[0] = 7;
-    row[1] = p.track as u64;
-    row[2] = p.position.0 as u64;
-    row[3] = p.event as u64;
-    row[4] = p.wait as u64;
-    row[5] = p.command as u64;
-    row[6] = p.target as u64;
-    row
+    padded(&[
+        7,
+        p.track as u64,
+        p.position.0 as u64,
+        p.event as u64,
+        p.wait as u64,
+        p.command as u64,
+        p.target as u64,
+    ])
 }
 
 // A track's numbers before its action cells, the kind of the reply first.
 fn track_head(t: Track) -> [u64; REPLY_WIDTH]
     ensures { result ≡ padded (6 ∷ take 11 (track_numbers (track_values t))) }
 {
-    let mut row = [0u64; REPLY_WIDTH];
-    row[0] = 6;
-    row[1] = t.min.0 as u64;
-    row[2] = t.max.0 as u64;
-    row[3] = t.start.0 as u64;
-    row[4] = t.end.0 as u64;
-    row[5] = t.position.0 as u64;
-    row[6] = t.passes.0 as u64;
-    row[7] = t.loops as u64;
-    row[8] = t.mode as u64;
-    row[9] = t.direction as u64;
-    row[10] = t.repeat as u64;
-    row[11] = t.due as u64;
-    row
-}
-
-// A track's action cells go behind its head.
-fn with_cells(head: [u64; REPLY_WIDTH], cells: [u8; Track::CELLS]) -> [u64; REPLY_WIDTH]
-    ensures { result ≡ write_at head cells_at cells }
-{
-    let mut row = head;
-    let mut j: usize = 0;
-    while j < Track::CELLS {
-        row[CELLS_AT + j] = wide(cells[j]);
-        j += 1;
-    }
-    row
-}
-
-// Its master and the band held go behind its cells.
-fn with_band(head: [u64; REPLY_WIDTH], master: u8, band: u8) -> [u64; REPLY_WIDTH]
-    ensures { result ≡ write_at head master_at (master ∷ band ∷ []) }
-{
-    let mut row = head;
-    row[MASTER_AT] = master as u64;
-    row[MASTER_AT + 1] = band as u64;
-    row
-}
-
-// Its thresholds go behind these, and then their events.
-fn with_four(
-    head: [u64; REPLY_WIDTH],
-    at: usize,
-    four: [u32; Track::THRESHOLDS],
-) -> [u64; REPLY_WIDTH]
-    requires { at + threshold_count ≤ reply_width }
-    ensures { result ≡ write_at head at four }
-{
-    let mut row = head;
-    let mut j: usize = 0;
-    while j < Track::THRESHOLDS {
-        row[at + j] = long(four[j]);
-        j += 1;
-    }
-    row
-}
-
-// Events at the width of thresholds.
-fn widened(four: [u16; Track::THRESHOLDS]) -> [u32; Track::THRESHOLDS]
-    ensures { result ≡ four }
-{
-    [
-        four[0] as u32,
-        four[1] as u32,
-        four[2] as u32,
-        four[3] as u32,
-    ]
-}
-
-// Its rate and the remainder go behind these.
-fn with_rate(head: [u64; REPLY_WIDTH], steps: u16, ticks: u16, remainder: u32) -> [u64; REPLY_WIDTH]
-    ensures { result ≡ write_at head rate_at (steps ∷ ticks ∷ remainder ∷ []) }
-{
-    let mut row = head;
-    row[RATE_AT] = steps as u64;
-    row[RATE_AT + 1] = ticks as u64;
-    row[RATE_AT + 2] = remainder as u64;
-    row
+    padded(&[
+        6,
+        t.min.0 as u64,
+        t.max.0 as u64,
+        t.start.0 as u64,
+        t.end.0 as u64,
+        t.position.0 as u64,
+        t.passes.0 as u64,
+        t.loops as u64,
+        t.mode as u64,
+        t.direction as u64,
+        t.repeat as u64,
+        t.due as u64,
+    ])
 }
 
 fn track_row(t: Track) -> [u64; REPLY_WIDTH]
     ensures { result ≡ padded (6 ∷ track_numbers (track_values t)) }
 {
-    let cells = t.actions;
-    let thresholds = t.thresholds;
-    let events = t.events;
-    let head = with_cells(track_head(t), cells);
-    let named = with_band(head, t.master, t.band);
-    let limited = with_four(named, THRESHOLDS_AT, thresholds);
-    let told = with_four(limited, EVENTS_AT, widened(events));
-    with_rate(told, t.steps, t.ticks, t.remainder)
+    let mut row = track_head(t);
+    put_row(&t.actions.map(|n| n as u64), &mut row, CELLS_AT);
+    put_row(&[t.master as u64, t.band as u64], &mut row, MASTER_AT);
+    put_row(&t.thresholds.map(|n| n as u64), &mut row, THRESHOLDS_AT);
+    put_row(&t.events.map(|n| n as u64), &mut row, EVENTS_AT);
+    let rate = [t.steps as u64, t.ticks as u64, t.remainder as u64];
+    put_row(&rate, &mut row, RATE_AT);
+    row
 }
 
-// The numbers of a reply, its kind first.
-pub fn reply_row(told: Told, track: Track) -> [u64; REPLY_WIDTH]
-    ensures { result ≡ numbers_of (reply_of told track) }
+// The numbers of a reply, its kind first. C reads the rows: kinds are numbers.
+pub fn reply_row(told: Result<Told, Refusal>) -> [u64; REPLY_WIDTH]
+    ensures { result ≡ numbers_of (reply_of told) }
 {
     match told {
-        Told::Accepted => short_row(0, 0, 0),
-        Told::Refused(n) => short_row(1, n as u64, 0),
-        Told::Done(n) => short_row(2, n.0 as u64, 0),
-        Told::LogFull(n) => short_row(3, n.0 as u64, 0),
-        Told::ClockEnd(n) => short_row(4, n.0 as u64, 0),
-        Told::Clock(c, held) => short_row(5, c.0 as u64, held),
-        Told::Track => track_row(track),
-        Told::Point(p) => point_row(p),
-        Told::Count(n) => short_row(8, n, 0),
-    }
-}
-
-// Numbers go to a place where they fit.
-fn put_row(row: &[u64], replies: &mut [u64], at: usize)
-    requires { at + length row.now ≤ length replies.old }
-    ensures { replies.new ≡ write_at replies.old at row.now }
-{
-    let mut j: usize = 0;
-    while j < row.len() {
-        replies[at + j] = row[j];
-        j += 1;
+        Err(refusal) => padded(&[1, refusal as u64]),
+        Ok(Told::Accepted) => padded(&[0]),
+        Ok(Told::Done(n)) => padded(&[2, n.0 as u64]),
+        Ok(Told::LogFull(n)) => padded(&[3, n.0 as u64]),
+        Ok(Told::ClockEnd(n)) => padded(&[4, n.0 as u64]),
+        Ok(Told::Clock(c, held)) => padded(&[5, c.0 as u64, held]),
+        Ok(Told::Track(track)) => track_row(track),
+        Ok(Told::Point(p)) => point_row(p),
+        Ok(Told::Count(n)) => padded(&[8, n]),
     }
 }
 
 // The numbers of a reply, as many as a row has, go to a place where they fit.
-fn put_reply(told: Told, track: Track, replies: &mut [u64], at: usize)
+fn put_reply(told: Result<Told, Refusal>, replies: &mut [u64], at: usize)
     requires { at + reply_width ≤ length replies.old }
-    ensures long { length (numbers_of (reply_of told track)) ≡ reply_width }
-    ensures written { replies.new ≡ write_at replies.old at (numbers_of (reply_of told track)) }
+    ensures long { length (numbers_of (reply_of told)) ≡ reply_width }
+    ensures written { replies.new ≡ write_at replies.old at (numbers_of (reply_of told)) }
 {
-    let row = reply_row(told, track);
-    put_row(&row, replies, at);
-}
-
-// A row that is no call changes nothing.
-fn no_call(b: Board) -> Applied
-    ensures { (reply_of result.told result.track ≡ refused 9) × (result.board ≡ b) }
-{
-    Applied {
-        told: Told::Refused(Answer::GRAMMAR),
-        track: Track::new(Coordinate(0), Coordinate(0)),
-        board: b,
-    }
+    put_row(&reply_row(told), replies, at);
 }
 
 // Does the call that a row is; a row that is no call is refused 9.
-pub fn answer(b: Board, row: Coded, log: &mut [u8]) -> Applied
-    ensures { Gives (row_does (coded_as row) (world b log.old)) (reply_of result.told result.track) result.board log.new }
+pub fn answer(b: Board, row: Option<Call>, log: &mut [u8]) -> Applied
+    ensures { Gives (row_does row (world b log.old)) (reply_of result.told) result.board log.new }
 {
-    let Coded::Call(c) = row else {
-        return no_call(b);
-    };
-    apply(b, c, log)
+    match row {
+        Some(c) => apply(b, c, log),
+        None => Applied {
+            told: Err(Refusal::Grammar),
+            board: b,
+        },
+    }
 }
 
 // Row i is done, and its reply written.
@@ -375,8 +236,6 @@ pub fn do_row(b: Board, calls: &[i64], i: usize, log: &mut [u8], replies: &mut [
 {
     let row = call_at(calls, i);
     let r = answer(b, row, log);
-    let told = r.told;
-    let track = r.track;
-    put_reply(told, track, replies, i * REPLY_WIDTH);
+    put_reply(r.told, replies, i * REPLY_WIDTH);
     r.board
 }

@@ -1,10 +1,12 @@
 // How long the band of a follower stays while neither it nor its master reaches a point or stops.
-ghost use Rattle.std.specs.Prelude.{◌≡◌, ◌⊎◌, true, ◌+◌, ◌≤◌, length};
-ghost use Rattle.track.specs.Rule.{Valid, STOPPED, coordinate_last, threshold_most};
+ghost use Rattle.std.specs.Prelude.{◌≡◌, ◌⊎◌, true, cond, ◌+◌, ◌*◌, ◌≤◌, ◌<◌, length};
+ghost use Rattle.track.specs.Rule.{Valid, STOPPED, clock_end, coordinate_last, rate_most, threshold_most};
+ghost use Rattle.track.specs.Leap.{ticks_before};
 ghost use Rattle.track.specs.Follow.{up_to_zero, thresholds_of, low_of, high_of, pairs_test};
-ghost use Rattle.board.specs.Steady.{BandRow, straight, still, fine, fine_most, pace, least, width, Drifts, Holds, Steadies};
+ghost use Rattle.board.specs.Stay.{Together};
+ghost use Rattle.board.specs.Steady.{BandRow, is_playing, straight, still, fine, fine_most, pace, least, width, Drifts, Holds, Steadies};
 
-use crate::stay::{greater, rounds, smaller, stay};
+use crate::stay::{Range, rounds, stay};
 use track::follow::apart;
 use track::{Coordinate, Ticks, Track};
 
@@ -16,16 +18,15 @@ pub(crate) fn steady(t: Track, m: Track) -> Ticks
     requires band_in_bounds { t.band ≤ length (thresholds_of t) }
     ensures { Steadies t m result.0 }
 {
-    if t.mode == Track::STOPPED {
+    if t.mode == Track::STOPPED || m.mode == Track::STOPPED {
         return stopped_pair(t, m);
     }
-    if m.mode == Track::STOPPED {
-        return stopped_pair(t, m);
-    }
-    let thresholds = t.thresholds;
-    let lo = low(thresholds, t.band);
-    let hi = high(thresholds, t.band);
-    within_band(t, m, lo, hi)
+    let band = BandDrifts::new(t.thresholds, t.band);
+    let pair = Pair {
+        follower: ValidTrack { track: t },
+        master: ValidTrack { track: m },
+    };
+    pair.within(band)
 }
 
 // Either is STOPPED: the band is none in the next tick.
@@ -34,9 +35,42 @@ fn stopped_pair(t: Track, m: Track) -> Ticks
     ensures { Steadies t m result.0 }
 {
     if t.band == 0 {
-        return Ticks(Ticks::END);
+        Ticks(Ticks::END)
+    } else {
+        Ticks(0)
     }
-    Ticks(0)
+}
+
+// The drifts of a band, from the least to the greatest.
+#[derive(Clone, Copy)]
+struct BandDrifts {
+    least: u32,
+    greatest: u32,
+    ghost low: { least ≤ threshold_most + 1 },
+    ghost high: { greatest ≤ coordinate_last },
+}
+
+impl BandDrifts {
+    fn new(thresholds: [u32; Track::THRESHOLDS], band: u8) -> Self
+        requires { BandRow thresholds band }
+        ensures { (result.least ≡ low_of (up_to_zero thresholds) band) × (result.greatest ≡ high_of (up_to_zero thresholds) band) }
+    {
+        BandDrifts {
+            least: low(thresholds, band),
+            greatest: high(thresholds, band),
+        }
+    }
+
+    // In parts of a location.
+    fn scaled(self, parts: u64) -> Range
+        requires { parts ≤ rate_most * rate_most }
+        ensures { result ≡ record { least = self.least * parts; greatest = self.greatest * parts } }
+    {
+        Range {
+            least: self.least as u64 * parts,
+            greatest: self.greatest as u64 * parts,
+        }
+    }
 }
 
 // The least drift of a band.
@@ -45,10 +79,7 @@ fn low(thresholds: [u32; Track::THRESHOLDS], band: u8) -> u32
     ensures { (result ≡ low_of (up_to_zero thresholds) band) × (result ≤ threshold_most + 1) }
 {
     let k = band as usize;
-    if k == 0 {
-        return 0;
-    }
-    thresholds[k - 1] + 1
+    if k == 0 { 0 } else { thresholds[k - 1] + 1 }
 }
 
 // The greatest drift of a band.
@@ -57,222 +88,231 @@ fn high(thresholds: [u32; Track::THRESHOLDS], band: u8) -> u32
     ensures { (result ≡ high_of (up_to_zero thresholds) band) × (result ≤ coordinate_last) }
 {
     let k = band as usize;
-    if k == Track::THRESHOLDS {
+    if k == Track::THRESHOLDS || thresholds[k] == 0 {
         return Coordinate::LAST;
     }
-    let next = thresholds[k];
-    if next == 0 {
-        return Coordinate::LAST;
-    }
-    next
+    thresholds[k]
 }
 
-// How many ticks the drift is from lo to hi: the longest of the stretches. Anywhere is asked first: it needs no line, and
-// where it holds up to the clock's end nothing else is worked out.
-fn within_band(t: Track, m: Track, lo: u32, hi: u32) -> Ticks
-    requires valid { Valid t }
-    requires valid_2 { Valid m }
-    requires lo_bound { (lo ≤ threshold_most + 1) × (hi ≤ coordinate_last) }
-    ensures { Holds lo hi t m result.0 }
-{
-    let any = anywhere(t, m, lo, hi);
-    if any.0 == Ticks::END {
-        return any;
-    }
-    let lines = line(t, m, lo, hi);
-    let first = one_anywhere(t, m, lo, hi);
-    let second = one_anywhere(m, t, lo, hi);
-    let round = in_step(t, m, lo, hi);
-    let rest = unmoved(t, m, lo, hi);
-    Ticks(greater(
-        greater(greater(greater(lines.0, first.0), second.0), round.0),
-        rest.0,
-    ))
+// Where a track may be, in so many parts to a location: its distance is from `at` to `at + width`, and with each tick both ends grow
+// by the pace, for so many ticks.
+#[derive(Clone, Copy)]
+struct Path {
+    at: u64,
+    width: u64,
+    pace: u64,
+    parts: u64,
+    ticks: Ticks,
+    ghost near: { at ≤ fine_most },
+    ghost narrow: { width ≤ coordinate_last },
+    ghost slow: { pace ≤ parts },
+    ghost some: { 0 < parts },
+    ghost few: { parts ≤ rate_most },
 }
 
-// Each goes on evenly in parts of a location, as many as the two rates have ticks, or stands.
-fn line(t: Track, m: Track, lo: u32, hi: u32) -> Ticks
-    requires valid { Valid t }
-    requires valid_2 { Valid m }
-    requires lo_bound { (lo ≤ threshold_most + 1) × (hi ≤ coordinate_last) }
-    ensures { Holds lo hi t m result.0 }
+// How many ticks the drift of two on their paths is known to be one of the band's.
+fn together(a: Path, b: Path, band: BandDrifts) -> Ticks
+    ensures { Together (a.at * b.parts) ((b.at + b.width) * a.parts) (a.width * b.parts + b.width * a.parts)
+        (a.pace * b.parts) (b.pace * a.parts) (band.least * (a.parts * b.parts)) (band.greatest * (a.parts * b.parts))
+        a.ticks.0 b.ticks.0 result.0 }
 {
-    let q = t.ticks as u64;
-    let k = m.ticks as u64;
-    let parts = q * k;
     let ticks = stay(
-        fine(t) * k,
-        fine(m) * q,
-        0,
-        pace(t) * k,
-        pace(m) * q,
-        lo as u64 * parts,
-        hi as u64 * parts,
+        a.at * b.parts,
+        (b.at + b.width) * a.parts,
+        a.width * b.parts + b.width * a.parts,
+        a.pace * b.parts,
+        b.pace * a.parts,
+        band.scaled(a.parts * b.parts),
     );
-    let first = straight(t);
-    let second = straight(m);
-    Ticks(smaller(ticks.0, smaller(first.0, second.0)))
+    Ticks(ticks.0.min(a.ticks.0).min(b.ticks.0))
 }
 
-// Each is somewhere on its span, or stands.
-fn anywhere(t: Track, m: Track, lo: u32, hi: u32) -> Ticks
-    requires valid { Valid t }
-    requires valid_2 { Valid m }
-    requires lo_bound { (lo ≤ threshold_most + 1) × (hi ≤ coordinate_last) }
-    ensures { Drifts lo hi t m result.0 }
-{
-    let w = width(m);
-    stay(
-        least(t),
-        least(m) + w,
-        width(t) + w,
-        0,
-        0,
-        lo as u64,
-        hi as u64,
-    )
+// A follower and its master.
+#[derive(Clone, Copy)]
+struct Pair {
+    follower: ValidTrack,
+    master: ValidTrack,
 }
 
-// The first goes on evenly in parts of a location, as many as its rate has ticks, the second is somewhere on its span.
-fn one_anywhere(t: Track, m: Track, lo: u32, hi: u32) -> Ticks
-    requires valid { Valid t }
-    requires valid_2 { Valid m }
-    requires lo_bound { (lo ≤ threshold_most + 1) × (hi ≤ coordinate_last) }
-    ensures { Drifts lo hi t m result.0 }
-{
-    let q = t.ticks as u64;
-    let w = width(m);
-    let ticks = stay(
-        fine(t),
-        (least(m) + w) * q,
-        w * q,
-        pace(t),
-        0,
-        lo as u64 * q,
-        hi as u64 * q,
-    );
-    let first = straight(t);
-    Ticks(smaller(ticks.0, first.0))
+impl Pair {
+    // How many ticks the drift is one of the band's: the longest of the stretches. Anywhere is asked first: it needs no line, and
+    // where it holds up to the clock's end nothing else is worked out.
+    fn within(self, band: BandDrifts) -> Ticks
+        ensures { Holds band.least band.greatest self.follower.track self.master.track result.0 }
+    {
+        let follower = self.follower.anywhere();
+        let master = self.master.anywhere();
+        let any = together(follower, master, band);
+        if any.0 == Ticks::END {
+            return any;
+        }
+        let follower_line = self.follower.line();
+        let master_line = self.master.line();
+        let lines = together(follower_line, master_line, band);
+        let first = together(follower_line, master, band);
+        let second = together(master_line, follower, band);
+        let round = self.in_step(band);
+        let rest = self.unmoved(band);
+        Ticks(lines.0.max(first.0).max(second.0).max(round.0).max(rest.0))
+    }
+
+    // Both go round their spans, equally fast.
+    fn in_step(self, band: BandDrifts) -> Ticks
+        ensures { Drifts band.least band.greatest self.follower.track self.master.track result.0 }
+    {
+        let t = self.follower.track;
+        let m = self.master.track;
+        let q = t.ticks as u64;
+        let k = m.ticks as u64;
+        if t.mode != Track::PLAYING
+            || m.mode != Track::PLAYING
+            || t.due == Track::DUE
+            || m.due == Track::DUE
+            || t.steps as u64 * k != m.steps as u64 * q
+        {
+            return Ticks(0);
+        }
+        let parts = q * k;
+        rounds(
+            self.follower.fine() * k,
+            self.master.fine() * q,
+            t.span() as u64 * parts,
+            m.span() as u64 * parts,
+            band.scaled(parts),
+        )
+    }
+
+    // Neither makes a step.
+    fn unmoved(self, band: BandDrifts) -> Ticks
+        ensures { Drifts band.least band.greatest self.follower.track self.master.track result.0 }
+    {
+        let drift = apart(self.follower.track.distance(), self.master.track.distance());
+        if drift < band.least || band.greatest < drift {
+            return Ticks(0);
+        }
+        Ticks(self.follower.still().0.min(self.master.still().0))
+    }
 }
 
-// Both go round their spans, equally fast.
-fn in_step(t: Track, m: Track, lo: u32, hi: u32) -> Ticks
-    requires valid { Valid t }
-    requires valid_2 { Valid m }
-    ensures { Drifts lo hi t m result.0 }
-{
-    if t.mode != Track::PLAYING {
-        return Ticks(0);
-    }
-    if m.mode != Track::PLAYING {
-        return Ticks(0);
-    }
-    if t.due == Track::DUE {
-        return Ticks(0);
-    }
-    if m.due == Track::DUE {
-        return Ticks(0);
-    }
-    let q = t.ticks as u64;
-    let k = m.ticks as u64;
-    if t.steps as u64 * k != m.steps as u64 * q {
-        return Ticks(0);
-    }
-    let parts = q * k;
-    rounds(
-        fine(t) * k,
-        fine(m) * q,
-        t.span() as u64 * parts,
-        m.span() as u64 * parts,
-        lo as u64 * parts,
-        hi as u64 * parts,
-    )
+// A track that keeps its rules.
+#[derive(Clone, Copy)]
+struct ValidTrack {
+    track: Track,
+    ghost valid: { Valid track },
 }
 
-// Neither makes a step.
-fn unmoved(t: Track, m: Track, lo: u32, hi: u32) -> Ticks
-    requires valid { Valid t }
-    requires valid_2 { Valid m }
-    ensures { Drifts lo hi t m result.0 }
-{
-    let drift = apart(t.distance(), m.distance());
-    if drift < lo {
-        return Ticks(0);
+impl ValidTrack {
+    // It goes on evenly in parts of a location, as many as its rate has ticks, or stands.
+    fn line(self) -> Path
+        ensures place { (result.at ≡ fine self.track) × (result.width ≡ 0) }
+        ensures pace { (result.pace ≡ pace self.track) × (result.parts ≡ self.track.ticks) }
+        ensures ticks { result.ticks.0 ≡ straight self.track }
+    {
+        Path {
+            at: self.fine(),
+            width: 0,
+            pace: self.pace(),
+            parts: self.track.ticks as u64,
+            ticks: self.straight(),
+        }
     }
-    if hi < drift {
-        return Ticks(0);
-    }
-    let first = still(t);
-    let second = still(m);
-    Ticks(smaller(first.0, second.0))
-}
 
-// The ticks in which each step that is made goes one further from home; all of them where it stands.
-fn straight(t: Track) -> Ticks
-    requires { Valid t }
-    ensures { result.0 ≡ straight t }
-{
-    if t.mode != Track::PLAYING {
-        return Ticks(Ticks::END);
+    // It is somewhere on its span, or stands.
+    fn anywhere(self) -> Path
+        ensures place { (result.at ≡ least self.track) × (result.width ≡ width self.track) }
+        ensures pace { (result.pace ≡ 0) × (result.parts ≡ 1) }
+        ensures ticks { result.ticks.0 ≡ clock_end }
+    {
+        Path {
+            at: self.least(),
+            width: self.width(),
+            pace: 0,
+            parts: 1,
+            ticks: Ticks(Ticks::END),
+        }
     }
-    if t.due == Track::DUE {
-        return t.ticks_before(0);
-    }
-    t.ticks_before(t.span() - 1 - t.distance())
-}
 
-// The ticks before the next one that makes a step; all of them where it stands.
-fn still(t: Track) -> Ticks
-    requires { Valid t }
-    ensures { result.0 ≡ still t }
-{
-    if t.mode != Track::PLAYING {
-        return Ticks(Ticks::END);
+    // The ticks in which each step that is made goes one further from home; all of them where it stands.
+    #[tactic(auto, unfolding(crate::specs::Steady::straight, crate::specs::Steady::straight_steps))]
+    fn straight(self) -> Ticks
+        ensures { result.0 ≡ straight self.track }
+    {
+        let t = self.track;
+        let steps = if t.due == Track::DUE {
+            0
+        } else {
+            t.span() - 1 - t.distance()
+        };
+        self.ticks_till(steps)
     }
-    t.ticks_before(0)
-}
 
-// Its distance in parts of a location, as many as its rate has ticks.
-fn fine(t: Track) -> u64
-    requires { Valid t }
-    ensures { (result ≡ fine t) × (result ≤ fine_most) }
-{
-    let whole = t.distance() as u64 * t.ticks as u64;
-    if t.mode == Track::PLAYING {
-        return whole + t.remainder as u64;
+    // The ticks before the next one that makes a step; all of them where it stands.
+    #[tactic(auto, unfolding(crate::specs::Steady::still))]
+    fn still(self) -> Ticks
+        ensures { result.0 ≡ still self.track }
+    {
+        self.ticks_till(0)
     }
-    whole
-}
 
-// How many of them it goes in each tick of a line.
-fn pace(t: Track) -> u64
-    requires { Valid t }
-    ensures { result ≡ pace t }
-{
-    if t.mode == Track::PLAYING {
-        return t.steps as u64;
+    // The ticks before the one that makes the step behind so many; all of them where it stands.
+    fn ticks_till(self, steps: u32) -> Ticks
+        requires few { steps ≤ clock_end }
+        ensures { result.0 ≡ cond (is_playing self.track) (ticks_before self.track steps) clock_end }
+    {
+        if self.track.mode == Track::PLAYING {
+            self.track.ticks_before(steps)
+        } else {
+            Ticks(Ticks::END)
+        }
     }
-    0
-}
 
-// The distances that it can have: the least one.
-fn least(t: Track) -> u64
-    requires { Valid t }
-    ensures { (result ≡ least t) × (result ≤ coordinate_last) }
-{
-    if t.mode == Track::PLAYING {
-        return 0;
+    // Its distance in parts of a location, as many as its rate has ticks.
+    #[tactic(auto, unfolding(crate::specs::Steady::fine))]
+    fn fine(self) -> u64
+        ensures { (result ≡ fine self.track) × (result ≤ fine_most) }
+    {
+        let t = self.track;
+        let whole = t.distance() as u64 * t.ticks as u64;
+        if t.mode == Track::PLAYING {
+            whole + t.remainder as u64
+        } else {
+            whole
+        }
     }
-    t.distance() as u64
-}
 
-// And how far they go beyond it.
-fn width(t: Track) -> u64
-    requires { Valid t }
-    ensures { (result ≡ width t) × (result ≤ coordinate_last) }
-{
-    if t.mode == Track::PLAYING {
-        return (t.span() - 1) as u64;
+    // How many of them it goes in each tick of a line.
+    #[tactic(auto, unfolding(crate::specs::Steady::pace))]
+    fn pace(self) -> u64
+        ensures { (result ≡ pace self.track) × (result ≤ self.track.ticks) }
+    {
+        if self.track.mode == Track::PLAYING {
+            self.track.steps as u64
+        } else {
+            0
+        }
     }
-    0
+
+    // The distances that it can have: the least one.
+    #[tactic(auto, unfolding(crate::specs::Steady::least))]
+    fn least(self) -> u64
+        ensures { (result ≡ least self.track) × (result ≤ coordinate_last) }
+    {
+        if self.track.mode == Track::PLAYING {
+            0
+        } else {
+            self.track.distance() as u64
+        }
+    }
+
+    // And how far they go beyond it.
+    #[tactic(auto, unfolding(crate::specs::Steady::width))]
+    fn width(self) -> u64
+        ensures { (result ≡ width self.track) × (result ≤ coordinate_last) }
+    {
+        if self.track.mode == Track::PLAYING {
+            (self.track.span() - 1) as u64
+        } else {
+            0
+        }
+    }
 }

@@ -1,12 +1,13 @@
 -- Demand 3 of the calls that the firmware makes: mode calls and advances over the board that it lends, and any call through the door.
+use Rattle.std.specs.Prelude.{Option, Some, None}
 use Prim.Native.Nat.{ℕ}
 use mathlib.Core.Path.{◌≡◌, refl, sym, ◌∙◌, ap, subst, subst⁻¹}
 use mathlib.Core.List.{List, [], ◌∷◌}
-use mathlib.Core.Option.{Option, none, some}
 use lib.IntN.{ℤ, pos}
 use lib.ListN.{length, get_or}
 use contract.Lifetimes.{Lfts}
 use denote.Ref.{Bor, MutBor}
+use Rattle.track.specs.Refusal as refusal
 use Rattle.track.specs.declared.setup.Change.{Change}
 use Rattle.track.specs.declared.setup.Change.TheVariants as change
 use Rattle.track.specs.Grid.{PLAY, PAUSE, RESUME, STOP}
@@ -68,13 +69,13 @@ opened-is zs w d =
     (d.numbers_are ∙ g.reply_is, d.left_is ∙ (λ i. world (g.board_is i) (g.log_is i)))
 
 -- a row that is a call: the numbers are those of its answer, the board and the log those that it leaves
-pub door-does : (zs : List ℤ) (w : World Board) {c : Call} {numbers : List ℕ} {v : World Board} → plain_at zs ≡ some c → Opened zs w numbers v
+pub door-does : (zs : List ℤ) (w : World Board) {c : Call} {numbers : List ℕ} {v : World Board} → plain_at zs ≡ Some c → Opened zs w numbers v
     → (numbers ≡ numbers_of (does c w).answer) × (v ≡ (does c w).left)
 unfolding row_does
 door-does zs w {numbers = numbers} {v = v} e d = subst (λ (o : Option Call). Comes o w numbers v) e (opened-is zs w d)
 
 -- a row that is no call: it is refused 9, the board and the log equal to before
-pub door-refuses : (zs : List ℤ) (w : World Board) {numbers : List ℕ} {v : World Board} → plain_at zs ≡ none → Opened zs w numbers v
+pub door-refuses : (zs : List ℤ) (w : World Board) {numbers : List ℕ} {v : World Board} → plain_at zs ≡ None → Opened zs w numbers v
     → (numbers ≡ numbers_of (refused 9)) × (v ≡ w)
 unfolding row_does
 door-refuses zs w {numbers} {v} e d = subst (λ (o : Option Call). Comes o w numbers v) e (opened-is zs w d)
@@ -132,12 +133,12 @@ pub data Lending : List Call → World Board → List Reply → World Board → 
       → promised call.Advance ending_said w.board count w.log v.board ending v.log → a ≡ ending_said ending → Lending cs v xs u
       → Lending (call.Advance count ∷ cs) w (a ∷ xs) u
   opened : (zs : List ℤ) {c : Call} {cs : List Call} {w v u : World Board} {numbers : List ℕ} {a : Reply} {xs : List Reply}
-      → plain_at zs ≡ some c → Opened zs w numbers v → a ≡ reply_in numbers → Lending cs v xs u → Lending (c ∷ cs) w (a ∷ xs) u
+      → plain_at zs ≡ Some c → Opened zs w numbers v → a ≡ reply_in numbers → Lending cs v xs u → Lending (c ∷ cs) w (a ∷ xs) u
   named : (track master : ℤ) (zs : List ℤ) {cs : List Call} {w v u : World Board} {numbers : List ℕ} {a : Reply} {xs : List Reply}
       → Named track master zs w numbers v → a ≡ reply_in numbers → Lending cs v xs u
       → Lending (call.Master track master (pairs_of zs) ∷ cs) w (a ∷ xs) u
   uncalled : (zs : List ℤ) {cs : List Call} {w v u : World Board} {numbers : List ℕ} {xs : List Reply}
-      → plain_at zs ≡ none → Opened zs w numbers v → Lending cs v xs u → Lending cs w xs u
+      → plain_at zs ≡ None → Opened zs w numbers v → Lending cs v xs u → Lending cs w xs u
   other : {c : Call} {cs : List Call} {w v u : World Board} {a : Reply} {xs : List Reply} → Step c w a v → Lending cs v xs u
       → Lending (c ∷ cs) w (a ∷ xs) u
 
@@ -185,7 +186,7 @@ Made cs w xs u = (t : Lending cs w xs u) × FromC t
 
 -- a row of each call
 abbrev Rowed : Call → Type 0
-Rowed c = (zs : List ℤ) × (plain_at zs ≡ some c)
+Rowed c = (zs : List ℤ) × (plain_at zs ≡ Some c)
 
 rowed : (i : ℤ) (c : Change) → Rowed (call.SetUp i c)
 rowed i (change.Start p) = (pos 2 ∷ i ∷ p ∷ [], refl)
@@ -205,7 +206,7 @@ abbrev lends_mut : {A : Type 0} → List A → MutBor (List A)
 lends_mut l = record { ref_ptr = (0, 0); ghost_name = 0; now = l }
 
 -- what the door can answer and leave is what its row does
-opens : (κs : Lfts 1) (zs : List ℤ) (c : Call) (w : World Board) → plain_at zs ≡ some c → Opened zs w (numbers_of (does c w).answer) (does c w).left
+opens : (κs : Lfts 1) (zs : List ℤ) (c : Call) (w : World Board) → plain_at zs ≡ Some c → Opened zs w (numbers_of (does c w).answer) (does c w).left
 unfolding row_does
 opens κs zs c w e =
     let d = does c w in
@@ -267,7 +268,7 @@ abbrev ending_of : Advanced → Ending
 ending_of (advance.Done n) = record { reason = 0; number = n.0 }
 ending_of (advance.LogFull n) = record { reason = 1; number = n.0 }
 ending_of (advance.ClockEnd n) = record { reason = 2; number = n.0 }
-ending_of (advance.Refused n) = record { reason = 3; number = n }
+ending_of (advance.Refused e) = record { reason = 3; number = refusal.number_of e }
 
 ending-says : (a : Advanced) → ending_said (ending_of a) ≡ advanced_said a
 ending-says (advance.Done n) = refl

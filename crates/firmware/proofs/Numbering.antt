@@ -1,15 +1,11 @@
 -- A mode call's number says what the call answers: no refusal of one has the number 0.
+use Rattle.std.specs.Prelude.{Option, Some, None}
 use Prim.Native.Nat.{ℕ, ◌+◌}
-use mathlib.Core.Path.{◌≡◌, refl, sym, ◌∙◌, ap}
+use mathlib.Core.Path.{◌≡◌, refl, ◌∙◌}
 use mathlib.Core.List.{List}
 use lib.Dec.{leb}
 use lib.IntN.{ℤ}
 use lib.ListN.{length}
-use native.Mathlib.Omega.{arith}
-use Rattle.track.specs.declared.setup.Answer.{Answer}
-use Rattle.track.specs.declared.setup.Answer.TheVariants as answer
-use Rattle.track.specs.declared.grid.Decision.{Decision}
-use Rattle.track.specs.declared.grid.Decision.TheVariants as decision
 use Rattle.track.specs.Grid.{grid_of}
 use Rattle.track.proofs.Tests.{cond_cases}
 use Rattle.board.specs.declared.Board.{Board}
@@ -19,7 +15,7 @@ use Rattle.board.specs.Cut.{Did}
 use Rattle.board.specs.Replay.{World}
 use Rattle.board.specs.Mode.{ModeResult, declined, call_records, changes_to, decided, mode_result}
 use Rattle.board.specs.Log.{capacity}
-use Rattle.board.specs.Call.{Reply, answered, mode_does, Gives}
+use Rattle.board.specs.Call.{Reply, answered, Gives}
 use Rattle.firmware.specs.Numbers.{number_of, number_said}
 
 -- what a mode call answers is said by its number: 3, 7, 1, 2 and 8 are no 0
@@ -36,26 +32,10 @@ result-numbered b n track code =
     P : ModeResult → Type 0
     P m = number_said (number_of m.answer) ≡ answered m.answer
 
-    go : (i : ℕ) (d : Decision) → P (decided b n i d)
-    go i (decision.Goes mode) = cond_cases P (leb (b.held + length (call_records b i mode)) (capacity n)) (λ _. refl) (λ _. refl)
-    go i decision.Refused = refl
-
--- answers that say the same have the same number
-same_number : (a b : Answer) → answered a ≡ answered b → number_of a ≡ number_of b
-same_number answer.Accepted answer.Accepted e = refl
-same_number answer.Accepted (answer.Refused n) e = let z : ◌≡◌ {A = ℕ} 0 1 = cc in absurd (omega arith)
-same_number (answer.Refused m) answer.Accepted e = let z : ◌≡◌ {A = ℕ} 0 1 = cc in absurd (omega arith)
-same_number (answer.Refused m) (answer.Refused n) e = cc
+    go : (i : ℕ) (d : Option ℕ) → P (decided b n i d)
+    go i (Some mode) = cond_cases P (leb (b.held + length (call_records b i mode)) (capacity n)) (λ _. refl) (λ _. refl)
+    go i None = refl
 
 -- by another reply that says the same
 pub gives_as : {d : Did Reply (World Board)} {reply reply' : Reply} {board : Board} {log : List ℕ} → reply' ≡ reply → Gives d reply board log → Gives d reply' board log
 gives_as e g = record { answer_is = e ∙ g.answer_is; board_is = g.board_is; log_is = g.log_is }
-
--- what a mode call gives, by the number of its answer
-pub gives-number : (code : ℕ) (track : ℤ) (w : World Board) (a : Answer) {board : Board} {log : List ℕ} → Gives (mode_does code track w) (answered a) board log →
-    {number : ℕ} → number ≡ number_of a → Gives (mode_does code track w) (number_said number) board log
-unfolding mode_does
-gives-number code track w a g q =
-    let n = length w.log in
-    let m = mode_result w.board n track code in
-    gives_as (ap number_said (q ∙ same_number a m.answer g.answer_is) ∙ result-numbered w.board n track code ∙ sym g.answer_is) g

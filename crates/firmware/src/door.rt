@@ -6,7 +6,7 @@ ghost use Rattle.board.specs.Lists.{Executed};
 ghost use Rattle.firmware.specs.Door.{RowGives, MasterGives};
 
 use board::Board;
-use board::apply::outcome;
+use board::apply::accepted;
 use board::lists::run_calls;
 use board::row::{REPLY_WIDTH, answer, call_of, reply_row};
 
@@ -33,13 +33,11 @@ pub extern "C" fn gridstep_call(
 ) -> Replied
     ensures { RowGives (row_does (call_of code x1 x2 x3 x4 x5 x6) (world b log.old)) result log.new }
 {
-    let row = call_of(code, x1, x2, x3, x4, x5, x6);
-    let r = answer(b, row, log);
-    let told = r.told;
-    let track = r.track;
-    let board = r.board;
-    let reply = reply_row(told, track);
-    Replied { board, reply }
+    let r = answer(b, call_of(code, x1, x2, x3, x4, x5, x6), log);
+    Replied {
+        board: r.board,
+        reply: reply_row(r.told),
+    }
 }
 
 // A master call with any number of thresholds, each with its event behind it; a set-up call, so it takes no log.
@@ -47,12 +45,11 @@ pub extern "C" fn gridstep_call(
 pub extern "C" fn gridstep_master(b: Board, track: i64, master: i64, pairs: &[i64]) -> Replied
     ensures { MasterGives track master pairs.now b result }
 {
-    let r = outcome(b.set_master(track, master, pairs));
-    let told = r.told;
-    let shown = r.track;
-    let board = r.board;
-    let reply = reply_row(told, shown);
-    Replied { board, reply }
+    let r = accepted(b, b.set_master(track, master, pairs));
+    Replied {
+        board: r.board,
+        reply: reply_row(r.told),
+    }
 }
 
 // An encoded list of calls from a fresh board: the board that it ends with.

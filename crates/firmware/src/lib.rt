@@ -4,13 +4,14 @@
 
 ghost use Rattle.std.specs.Prelude.{◌≡◌};
 ghost use Rattle.board.specs.Board.{fresh_board};
-ghost use Rattle.board.specs.Call.{Gives, does, world};
+ghost use Rattle.board.specs.Call.{Gives, does, mode_does, world};
 ghost use Rattle.board.specs.declared.call.Call.TheVariants as call;
 ghost use Rattle.firmware.specs.Numbers.{number_said, ending_said};
 
 use board::Board;
 use board::advance::proceed;
-use value::{Ending, ending_of};
+use board::mode::change_mode;
+use value::Ending;
 
 pub mod door;
 pub mod value;
@@ -23,105 +24,57 @@ pub extern "C" fn gridstep_new() -> Board
     Board::new()
 }
 
+// A mode call by its number, 1 play, 2 pause, 3 resume, 4 stop: 0 if it is accepted, else the refusal's number.
+fn mode_call(b: &mut Board, track: i64, call: u8, log: &mut [u8]) -> u32
+    ensures { Gives (mode_does call track (world b.old log.old)) (number_said result) b.new log.new }
+{
+    match change_mode(b, track, call, log) {
+        Ok(change) => {
+            b.tracks[change.at] = change.track;
+            b.held = change.held;
+            0
+        }
+        Err(refusal) => refusal as u32,
+    }
+}
+
 // Each mode call answers 0 if it is accepted, else the refusal's number.
 #[unsafe(no_mangle)]
 pub extern "C" fn gridstep_play(b: &mut Board, track: i64, log: &mut [u8]) -> u32
     ensures { Gives (does (call.Play track) (world b.old log.old)) (number_said result) b.new log.new }
 {
-    let r = value::play(
-        b.tracks,
-        b.present,
-        b.clock,
-        &b.points.keys,
-        &b.points.infos,
-        b.points.count,
-        b.held,
-        track,
-        log,
-    );
-    b.tracks[r.at] = r.track;
-    b.held = r.held;
-    r.number
+    mode_call(b, track, 1, log)
 }
 
 #[unsafe(no_mangle)]
 pub extern "C" fn gridstep_pause(b: &mut Board, track: i64, log: &mut [u8]) -> u32
     ensures { Gives (does (call.Pause track) (world b.old log.old)) (number_said result) b.new log.new }
 {
-    let r = value::pause(
-        b.tracks,
-        b.present,
-        b.clock,
-        &b.points.keys,
-        &b.points.infos,
-        b.points.count,
-        b.held,
-        track,
-        log,
-    );
-    b.tracks[r.at] = r.track;
-    b.held = r.held;
-    r.number
+    mode_call(b, track, 2, log)
 }
 
 #[unsafe(no_mangle)]
 pub extern "C" fn gridstep_resume(b: &mut Board, track: i64, log: &mut [u8]) -> u32
     ensures { Gives (does (call.Resume track) (world b.old log.old)) (number_said result) b.new log.new }
 {
-    let r = value::resume(
-        b.tracks,
-        b.present,
-        b.clock,
-        &b.points.keys,
-        &b.points.infos,
-        b.points.count,
-        b.held,
-        track,
-        log,
-    );
-    b.tracks[r.at] = r.track;
-    b.held = r.held;
-    r.number
+    mode_call(b, track, 3, log)
 }
 
 #[unsafe(no_mangle)]
 pub extern "C" fn gridstep_stop(b: &mut Board, track: i64, log: &mut [u8]) -> u32
     ensures { Gives (does (call.Stop track) (world b.old log.old)) (number_said result) b.new log.new }
 {
-    let r = value::stop(
-        b.tracks,
-        b.present,
-        b.clock,
-        &b.points.keys,
-        &b.points.infos,
-        b.points.count,
-        b.held,
-        track,
-        log,
-    );
-    b.tracks[r.at] = r.track;
-    b.held = r.held;
-    r.number
+    mode_call(b, track, 4, log)
 }
 
 #[unsafe(no_mangle)]
 pub extern "C" fn gridstep_advance(b: &mut Board, count: i64, log: &mut [u8]) -> Ending
     ensures { Gives (does (call.Advance count) (world b.old log.old)) (ending_said result) b.new log.new }
 {
-    let r = proceed(
-        b.tracks,
-        b.present,
-        b.clock,
-        &b.points.keys,
-        &b.points.infos,
-        b.points.count,
-        b.held,
-        count,
-        log,
-    );
-    let tracks = r.tracks;
+    let left = proceed(b, count, log);
+    let tracks = left.tracks;
     b.tracks = tracks;
-    b.clock = r.clock;
-    b.held = r.held as u64;
-    ending_of(r.answer)
+    b.clock = left.clock;
+    b.held = left.held as u64;
+    Ending::from(left.answer)
 }

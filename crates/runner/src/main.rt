@@ -4,10 +4,9 @@
 
 ghost use Rattle.std.specs.Prelude.{◌≤◌, [], length};
 ghost use Rattle.script.specs.Run.{Went};
-ghost use Rattle.script.specs.Text.{line_room};
 
 use script::output::{end_line, show};
-use script::run::{Session, feed, finish};
+use script::run::Session;
 use script::text::Out;
 use std::io::Read;
 
@@ -17,119 +16,78 @@ const LOG: usize = 65536;
 // Bytes of a piece of the input, and of what is printed at once.
 const PIECE: usize = 65536;
 
-// Prints the first bytes of a buffer. What can't be written is lost.
-fn print(rt: &impl Print, out: &[u8], used: usize)
-    requires { used ≤ length out.now }
-{
-    let _written = rt.write_all(&out[0..used]).is_ok();
+// Where lines are printed, and the buffer that they are written into.
+#[derive(Drop)]
+struct Printer<'a, P> {
+    rt: &'a P,
+    buffer: [u8; PIECE],
 }
 
-// Prints a line.
-fn print_line(rt: &impl Print, o: Out, out: &mut [u8])
-    requires { line_room ≤ length out.old }
-{
-    let used = o.write(out, 0);
-    print(rt, out, used);
-}
-
-// Takes in a piece of the input; what it prints is printed before the next is read.
-fn take_in(rt: &impl Print, x: Session, piece: &[u8], log: &mut [u8], out: &mut [u8]) -> Session
-    requires { line_room ≤ length out.old }
-    ensures { Went x piece.now log.old result [] log.new }
-{
-    let mut session = x;
-    let mut at: usize = 0;
-    while at < piece.len() {
-        let f = feed(session, piece, at, log, out);
-        print(rt, out, f.used);
-        session = f.session;
-        at = f.next;
+impl<P: Print> Printer<'_, P> {
+    // Prints the first bytes of the buffer. What can't be written is lost.
+    fn print(&self, used: usize)
+        requires { used ≤ length self.now.buffer }
+    {
+        let _written = self.rt.write_all(&self.buffer[..used]).is_ok();
     }
-    session
-}
 
-// A session, and whether the input goes on.
-#[derive(Clone, Copy)]
-struct Turn {
-    session: Session,
-    more: bool,
-}
-
-// Reads a piece and takes it in.
-fn read_piece(
-    rt: &impl Print,
-    reader: &mut impl Read,
-    x: Session,
-    piece: &mut [u8],
-    log: &mut [u8],
-    out: &mut [u8],
-) -> Turn
-    requires { line_room ≤ length out.old }
-{
-    let n = reader.read(piece).unwrap_or(0);
-    if n == 0 {
-        return Turn {
-            session: x,
-            more: false,
-        };
+    // Prints a line.
+    fn print_line(&mut self, o: Out) {
+        let used = o.write(&mut self.buffer, 0);
+        self.print(used);
     }
-    let session = take_in(rt, x, &piece[..n], log, out);
-    Turn {
-        session,
-        more: true,
-    }
-}
 
-// Reads the input to its end: 64 bits count more pieces than any input has.
-fn take_all(
-    rt: &impl Print,
-    reader: &mut impl Read,
-    piece: &mut [u8],
-    log: &mut [u8],
-    out: &mut [u8],
-) -> Session
-    requires { line_room ≤ length out.old }
-{
-    let mut session = Session::new();
-    let mut turns: u64 = 18446744073709551615;
-    while 0 < turns {
-        let t = read_piece(rt, reader, session, piece, log, out);
-        session = t.session;
-        if !t.more {
-            return session;
+    // Takes in a piece of the input; what it prints is printed before the next is read.
+    fn take_in(&mut self, session: &mut Session, piece: &[u8], log: &mut [u8])
+        ensures { Went session.old piece.now log.old session.new [] log.new }
+    {
+        // No `for`: each turn goes on where `feed` stopped.
+        let mut at: usize = 0;
+        while at < piece.len() {
+            let fed = session.feed(piece, at, log, &mut self.buffer);
+            self.print(fed.used);
+            at = fed.next;
         }
-        turns -= 1;
     }
-    session
-}
 
-// Prints the held records.
-fn print_records(rt: &impl Print, held: u64, log: &[u8], out: &mut [u8])
-    requires { line_room ≤ length out.old }
-{
-    let mut at: usize = 0;
-    let mut left = held;
-    while 0 < left {
-        let s = show(log, at, left, out);
-        print(rt, out, s.used);
-        at = s.at;
-        left = s.left;
+    // Reads the input to its end: 64 bits count more pieces than any input has.
+    fn take_all(&mut self, reader: &mut impl Read, piece: &mut [u8], log: &mut [u8]) -> Session {
+        let mut session = Session::new();
+        for _ in 0..u64::MAX {
+            let count = reader.read(piece).unwrap_or(0);
+            if count == 0 {
+                return session;
+            }
+            self.take_in(&mut session, &piece[..count], log);
+        }
+        session
+    }
+
+    // Prints the held records.
+    fn print_records(&mut self, held: u64, log: &[u8]) {
+        // No `for`: each turn goes on where `show` stopped.
+        let mut at: usize = 0;
+        let mut left = held;
+        while 0 < left {
+            let shown = show(log, at, left, &mut self.buffer);
+            self.print(shown.used);
+            at = shown.at;
+            left = shown.left;
+        }
     }
 }
 
 fn main(rt: HostRuntime) {
     let mut log = [0u8; LOG];
     let mut piece = [0u8; PIECE];
-    let mut out = [0u8; PIECE];
     let mut reader = rt.reader();
-    let session = take_all(&rt, &mut reader, &mut piece, &mut log, &mut out);
-    let e = finish(session, &mut log);
-    let note = e.note;
-    print_line(&rt, note, &mut out);
-    let board = e.board;
-    let clock = board.clock;
-    let held = board.held;
-    print_records(&rt, held, &log, &mut out);
-    let end = end_line(clock, held);
-    print_line(&rt, end, &mut out);
+    let mut printer = Printer {
+        rt: &rt,
+        buffer: [0u8; PIECE],
+    };
+    let session = printer.take_all(&mut reader, &mut piece, &mut log);
+    let ended = session.finish(&mut log);
+    printer.print_line(ended.note);
+    printer.print_records(ended.board.held, &log);
+    printer.print_line(end_line(ended.board.clock, ended.board.held));
 }

@@ -1,7 +1,6 @@
 -- The lines of an input that comes in pieces (01, "Script lines").
-use Rattle.std.specs.Prelude.{ℕ, suc, ◌+◌, ◌%◌, ◌≤◌, ◌<◌, ◌≡◌, true, false, cond, List, [], ◌∷◌, ◌++◌, map, eqb, length, take, drop}
+use Rattle.std.specs.Prelude.{ℕ, suc, ◌+◌, ◌%◌, ◌≤◌, ◌<◌, ◌≡◌, cond, List, [], ◌∷◌, ◌++◌, map, eqb, length, take, drop, Option, Some, None, IfSome}
 use Rattle.script.specs.declared.lines.Reader.{Reader}
-use Rattle.script.specs.declared.lines.Read.{Read}
 use Rattle.script.specs.Bytes.{lf}
 
 -- ---- what 01 says
@@ -73,11 +72,19 @@ joined_pieces (p ∷ ps) = p ++ joined_pieces ps
 abbrev pub kept_by : Reader → List ℕ
 kept_by r = take r.length r.bytes
 
--- From `at` on the reader has read the rest of a line, or the rest of the piece.
-pub record ReadsOn (r : Reader) (piece : List ℕ) (at : ℕ) (f : Read) : Type 0 where
-  pub lines : lines_in (kept_by r) (drop at piece) ≡ cond f.ended (kept_by f.reader ∷ lines_in [] (drop f.next piece)) []
-  pub after : open_after (kept_by r) (drop at piece) ≡ cond f.ended (open_after [] (drop f.next piece)) (kept_by f.reader)
-  pub same : f.reader.line ≡ r.line
-  pub within : f.ended ≡ true → f.next ≤ length piece
-  pub further : f.ended ≡ true → at < f.next
-  pub all : f.ended ≡ false → length piece ≤ f.next
+-- the lines that end in a piece behind a place, ahead of them the one that a reader keeps; none if there is no place, since the piece is used up
+abbrev pub lines_behind : Reader → List ℕ → Option ℕ → List (List ℕ)
+lines_behind r piece None = []
+lines_behind r piece (Some next) = kept_by r ∷ lines_in [] (drop next piece)
+
+-- what is kept of the line that is open after the piece
+abbrev pub open_behind : Reader → List ℕ → Option ℕ → List ℕ
+open_behind r piece None = kept_by r
+open_behind r piece (Some next) = open_after [] (drop next piece)
+
+-- From `at` on the reader has read the rest of a line, and the place behind it is next, or the rest of the piece.
+pub record ReadsOn (r : Reader) (piece : List ℕ) (at : ℕ) (next : Option ℕ) (r' : Reader) : Type 0 where
+  pub lines : lines_in (kept_by r) (drop at piece) ≡ lines_behind r' piece next
+  pub after : open_after (kept_by r) (drop at piece) ≡ open_behind r' piece next
+  pub same : r'.line ≡ r.line
+  pub further : IfSome next (λ n. (at < n) × (n ≤ length piece))

@@ -1,13 +1,12 @@
 -- What a script does with a board and its log, and what is printed of its lines (01, "Script lines").
-use Rattle.std.specs.Prelude.{ℕ, ◌≤◌, ◌<◌, ◌≡◌, List, [], ◌∷◌, ◌++◌, map, length, take, drop}
-use Rattle.std.proofs.Math.Option.{Option}
+use Rattle.std.specs.Prelude.{ℕ, ◌≤◌, ◌<◌, ◌≡◌, List, [], ◌∷◌, ◌++◌, map, length, take, drop, Option}
 use Rattle.board.specs.declared.Board.{Board}
 use Rattle.board.specs.Board.{fresh_board}
 use Rattle.board.specs.Cut.{All}
 use Rattle.board.specs.Replay.{World}
 use Rattle.board.specs.declared.call.Call.{Call}
-use Rattle.board.specs.Call.{Reply, world}
-use Rattle.board.specs.Row.{rows_do}
+use Rattle.board.specs.Call.{Reply, Gives, world}
+use Rattle.board.specs.Row.{row_does, rows_do}
 use Rattle.script.specs.Lines.{lines_of, number_after, number_behind, lines_in, open_after, last_line, kept_by}
 use Rattle.script.specs.Grammar.{line_call}
 use Rattle.script.specs.Output.{note_of, record_lines, end_line}
@@ -15,6 +14,7 @@ use Rattle.script.specs.Text.{line_room, text_of}
 use Rattle.script.specs.declared.run.Session.{Session}
 use Rattle.script.specs.declared.run.Fed.{Fed}
 use Rattle.script.specs.declared.run.Ended.{Ended}
+use Rattle.script.specs.declared.text.Out.{Out}
 
 -- ---- what 01 says
 
@@ -74,9 +74,17 @@ pub record Went (x : Session) (s log : List ℕ) (y : Session) (s' log' : List �
   pub text : List ℕ
   pub goes : Goes x s log text y s' log'
 
+-- The line that the reader keeps is done, and what it prints is noted; the next is open, and nothing read of it.
+pub record EndsLine (x : Session) (log : List ℕ) (note : Out) (y : Session) (log' : List ℕ) : Type 0 where
+  pub reply : Reply
+  pub gives : Gives (row_does (line_call (kept_by x.reader)) (world_of x log)) reply y.board log'
+  pub text_is : text_of note ≡ note_of x.reader.line reply
+  pub open_is : kept_by y.reader ≡ []
+  pub line_is : y.reader.line ≡ number_after x.reader.line
+
 -- A piece has been taken in from `at` to the place that is next.
-pub record Feeds (x : Session) (piece : List ℕ) (at : ℕ) (log out : List ℕ) (r : Fed) (log' out' : List ℕ) : Type 0 where
-  pub goes : Goes x (drop at piece) log (take r.used out') r.session (drop r.next piece) log'
+pub record Feeds (x : Session) (piece : List ℕ) (at : ℕ) (log out : List ℕ) (r : Fed) (y : Session) (log' out' : List ℕ) : Type 0 where
+  pub goes : Goes x (drop at piece) log (take r.used out') y (drop r.next piece) log'
   pub within : r.used ≤ length out
   pub further : line_room ≤ length out → at < length piece → at < r.next
 

@@ -1,6 +1,5 @@
 -- Numbers in base ten, and what is written into a buffer.
-use Rattle.std.specs.Prelude.{ℕ, zero, suc, ◌+◌, ◌/◌, ◌%◌, ◌≤◌, ◌≡◌, cond, List, [], ◌∷◌, ◌++◌, ltb, ℤ, pos, negsuc, length, take, drop}
-use Rattle.script.specs.declared.text.Digits.{Digits}
+use Rattle.std.specs.Prelude.{ℕ, zero, suc, ◌+◌, ◌/◌, ◌%◌, ◌≤◌, ◌≡◌, cond, List, [], ◌∷◌, ◌++◌, ltb, ℤ, pos, negsuc, length, take}
 use Rattle.script.specs.declared.text.Out.{Out}
 use Rattle.script.specs.Bytes.{minus, digit_zero}
 
@@ -35,10 +34,6 @@ line_room = 160
 -- what has been written
 abbrev pub text_of : Out → List ℕ
 text_of o = take o.length o.bytes
-
-pub record IsDecimal (n : ℕ) (d : Digits) : Type 0 where
-  pub digits : drop d.from d.bytes ≡ decimal n
-  pub within : d.from ≤ digits_most
 
 -- more is written behind what was, in so many bytes at most
 pub record Adds (o : Out) (more : List ℕ) (most : ℕ) (r : Out) : Type 0 where

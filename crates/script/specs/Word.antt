@@ -1,5 +1,6 @@
 -- The words of script lines (01, "Script lines"), and the code that each has as a call's row has it.
-use Rattle.std.specs.Prelude.{ℕ, suc, ◌+◌, ◌*◌, Bool, true, false, cond, ◌&&◌, List, [], ◌∷◌, eqb, ltb, get_or}
+use Rattle.std.specs.Prelude.{ℕ, suc, Bool, true, false, cond, ◌&&◌, List, [], ◌∷◌, eqb, get_or, Option, Some, None}
+use Rattle.script.specs.declared.word.CodedForm.{CodedForm}
 
 -- a form of a line: its word, and how many numbers follow it
 pub record Form : Type 0 where
@@ -53,21 +54,8 @@ code_of w = code_from 1 w forms
 abbrev pub numbers_after : ℕ → ℕ
 numbers_after c = (get_or (no_form ∷ forms) c no_form).count
 
--- ---- as the code compares them
+-- ---- as the code finds it
 
--- a word as a number: lowest byte first, with a 1 above
-unfoldable pub packed : List ℕ → ℕ
-packed [] = 1
-packed (b ∷ s) = packed s * 256 + b
-
--- 64 bits hold the numbers below this one
-abbrev pub word_end : ℕ
-word_end = 18446744073709551616
-
--- 0 for a word that 64 bits don't hold
-unfoldable pub packed_or0 : List ℕ → ℕ
-packed_or0 w = cond (ltb (packed w) word_end) (packed w) 0
-
--- the word of a form, the first of them at 0
-abbrev pub packed_at : ℕ → ℕ
-packed_at k = packed (get_or forms k no_form).word
+-- the code of a word's form, and how many numbers it takes; none if the word is that of no call
+abbrev pub form_of : List ℕ → Option CodedForm
+form_of w = cond (eqb (code_of w) 0) None (Some (record { code = code_of w; count = numbers_after (code_of w) }))

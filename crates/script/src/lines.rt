@@ -1,6 +1,7 @@
 // Lines of an input that comes in pieces of any size.
-ghost use Rattle.std.specs.Prelude.{◌≡◌, [], ◌≤◌, length, take};
-ghost use Rattle.script.specs.Lines.{number_after, kept_by, more, ReadsOn};
+ghost use Rattle.std.specs.Prelude.{◌≡◌, [], ◌++◌, take, eqb};
+ghost use Rattle.std.specs.List.{position};
+ghost use Rattle.script.specs.Lines.{number_after, kept_by, kept_most, ReadsOn};
 
 // Bytes of a line at most, its LF among them.
 pub const LINE: usize = 64;
@@ -8,7 +9,7 @@ pub const LINE: usize = 64;
 // Bytes of a line that are kept: one more than a line has at most, which tells that it is too long.
 pub const KEPT: usize = LINE + 1;
 
-// A line that is being read: its number, and the first of its bytes.
+// A line that is being read: its number, and the first of its bytes, in fixed memory since there is no heap for a `Vec`.
 #[derive(Clone, Copy)]
 pub struct Reader {
     pub line: u64,
@@ -16,34 +17,11 @@ pub struct Reader {
     pub bytes: [u8; KEPT],
 }
 
-// The reader after a part of a piece, the place behind that part, and whether a line ended there.
-#[derive(Clone, Copy)]
-pub struct Read {
-    pub reader: Reader,
-    pub next: usize,
-    pub ended: bool,
-}
-
-// The number behind a line's; it has 64 bits.
-fn number_after(line: u64) -> u64
-    ensures { result ≡ number_after line }
+// The place of a text's first LF.
+fn find_end(text: &[u8]) -> Option<usize>
+    ensures { result ≡ position (λ b. eqb b 10) text.now }
 {
-    if line == 18446744073709551615 {
-        return 0;
-    }
-    line + 1
-}
-
-// A byte more of a line, of which n are kept; how many then are.
-fn put(bytes: &mut [u8; KEPT], n: usize, b: u8) -> usize
-    requires { length bytes.old ≡ 65 }
-    ensures { (take result bytes.new ≡ more (take n bytes.old) b) × (length bytes.new ≡ 65) }
-{
-    if n < KEPT {
-        bytes[n] = b;
-        return n + 1;
-    }
-    n
+    text.iter().position(|byte| *byte == b'\n')
 }
 
 impl Reader {
@@ -58,53 +36,42 @@ impl Reader {
         }
     }
 
-    // How many bytes are kept.
-    pub fn kept(self) -> usize
-        ensures { (take result self.bytes ≡ kept_by self) × (result ≤ 65) }
+    // The bytes that are kept.
+    pub fn kept(&self) -> &[u8]
+        ensures { result.now ≡ kept_by self.now }
     {
-        let n = self.length;
-        if KEPT < n {
-            return KEPT;
-        }
-        n
+        &self.bytes[..self.length.min(KEPT)]
     }
 
-    // Before the next line.
-    pub fn next_line(self) -> Reader
-        ensures { (kept_by result ≡ []) × (result.line ≡ number_after self.line) }
+    // Before the next line; its number has 64 bits.
+    pub fn next_line(&mut self)
+        ensures { (kept_by self.new ≡ []) × (self.new.line ≡ number_after self.old.line) }
     {
-        let mut r = self;
-        let n = r.line;
-        r.line = number_after(n);
-        r.length = 0;
-        r
+        self.line = self.line.wrapping_add(1);
+        self.length = 0;
     }
 
-    // Reads on from `at` to the end of the line or of the piece.
-    pub fn read_on(self, piece: &[u8], at: usize) -> Read
-        ensures { ReadsOn self piece.now at result }
+    // Bytes more of the line, of which as many are kept as there is room for.
+    fn keep(&mut self, more: &[u8])
+        ensures kept { kept_by self.new ≡ take kept_most (kept_by self.old ++ more.now) }
+        ensures same { self.new.line ≡ self.old.line }
     {
-        let mut reader = self;
-        let mut n = reader.length;
-        let mut i = at;
-        while i < piece.len() {
-            let b = piece[i];
-            i += 1;
-            n = put(&mut reader.bytes, n, b);
-            if b == b'\n' {
-                reader.length = n;
-                return Read {
-                    reader,
-                    next: i,
-                    ended: true,
-                };
-            }
-        }
-        reader.length = n;
-        Read {
-            reader,
-            next: i,
-            ended: false,
-        }
+        let from = self.length.min(KEPT);
+        let count = more.len().min(KEPT - from);
+        self.bytes[from..from + count].copy_from_slice(&more[..count]);
+        self.length = from + count;
+    }
+
+    // Reads on from `at` to the end of the line, and gives the place behind it; none is given where the piece ends first.
+    pub fn read_on(&mut self, piece: &[u8], at: usize) -> Option<usize>
+        ensures { ReadsOn self.old piece.now at result self.new }
+    {
+        let rest = piece.get(at..)?;
+        let Some(end) = find_end(rest) else {
+            self.keep(rest);
+            return None;
+        };
+        self.keep(&rest[..=end]);
+        Some(at + end + 1)
     }
 }

@@ -1,82 +1,84 @@
 // The lines that the runner prints (01, "Script lines").
-ghost use Rattle.std.specs.Prelude.{◌≡◌, ◌≤◌, ◌+◌, min};
-ghost use Rattle.track.specs.declared.Track.{Track};
+ghost use Rattle.std.specs.Prelude.{◌≡◌, ◌≤◌};
 ghost use Rattle.board.specs.Call.{reply_of};
 ghost use Rattle.script.specs.Output.{refused_line, short_line, end_line, record_head, record_line, note_of, unpacked_line, Shows};
 ghost use Rattle.script.specs.Text.{text_of};
-ghost use Rattle.board.specs.Log.{record_width, record_values, unpack_of};
+ghost use Rattle.board.specs.Log.{record_values, unpack_of};
 
 use crate::text::Out;
 use board::call::Told;
-use board::log::{Record, Unpacked, unpack};
+use board::log::{Record, unpack};
 use track::Ticks;
+use track::refusal::Refusal;
 
+// The number of a refusal stays a `u8`: a `Refusal` would ask more of callers.
 pub fn refused_line(line: u64, number: u8) -> Out
     ensures { text_of result ≡ refused_line line number }
 {
-    let word = [b'r', b'e', b'f', b'u', b's', b'e', b'd', b','];
-    let o = Out::new();
-    let w = o.push_from(&word, 0);
-    let l = w.number(line, b',');
-    l.number(number as u64, b'\n')
+    let mut o = Out::new();
+    o.push(b"refused,");
+    o.number(line, b',');
+    o.number(u64::from(number), b'\n');
+    o
 }
+
+// Why an advance stopped short, as its line tells it; numbers, since an enum would ask more of callers.
+const LOG_FULL: u8 = 1;
+
+const CLOCK_END: u8 = 2;
 
 pub fn short_line(line: u64, taken: Ticks, reason: u8) -> Out
     ensures { text_of result ≡ short_line line taken.0 reason }
 {
-    let word = [b's', b'h', b'o', b'r', b't', b','];
-    let o = Out::new();
-    let w = o.push_from(&word, 0);
-    let l = w.number(line, b',');
-    let t = l.number(taken.0 as u64, b',');
-    t.number(reason as u64, b'\n')
+    let mut o = Out::new();
+    o.push(b"short,");
+    o.number(line, b',');
+    o.number(u64::from(taken.0), b',');
+    o.number(u64::from(reason), b'\n');
+    o
 }
 
 pub fn end_line(clock: Ticks, held: u64) -> Out
     ensures { text_of result ≡ end_line clock.0 held }
 {
-    let word = [b'e', b'n', b'd', b','];
-    let o = Out::new();
-    let w = o.push_from(&word, 0);
-    let c = w.number(clock.0 as u64, b',');
-    c.number(held, b'\n')
+    let mut o = Out::new();
+    o.push(b"end,");
+    o.number(u64::from(clock.0), b',');
+    o.number(held, b'\n');
+    o
 }
 
 // A record's numbers but for its position and passes.
 fn record_head(r: Record) -> Out
     ensures { (text_of result ≡ record_head (record_values r)) × (result.length ≤ 105) }
 {
-    let o = Out::new();
-    let a = o.number(r.clock.0 as u64, b',');
-    let b = a.number(r.track as u64, b',');
-    let c = b.number(r.kind as u64, b',');
-    let d = c.number(r.event as u64, b',');
-    d.number(r.detail as u64, b',')
+    let mut o = Out::new();
+    o.number(u64::from(r.clock.0), b',');
+    o.number(u64::from(r.track), b',');
+    o.number(u64::from(r.kind), b',');
+    o.number(u64::from(r.event), b',');
+    o.number(u64::from(r.detail), b',');
+    o
 }
 
 pub fn record_line(r: Record) -> Out
     ensures { text_of result ≡ record_line (record_values r) }
 {
-    let h = record_head(r);
-    let p = r.position;
-    let o = h.position(p);
-    o.number(r.passes.0 as u64, b'\n')
+    let mut o = record_head(r);
+    o.position(r.position);
+    o.number(u64::from(r.passes.0), b'\n');
+    o
 }
 
 // What is printed of a line's answer: a refusal, or an advance that stopped short.
-pub fn note(line: u64, told: Told) -> Out
-    ensures { (t : Track) → text_of result ≡ note_of line (reply_of told t) }
+pub fn note(line: u64, told: Result<Told, Refusal>) -> Out
+    ensures { text_of result ≡ note_of line (reply_of told) }
 {
     match told {
-        Told::Refused(n) => refused_line(line, n),
-        Told::LogFull(n) => short_line(line, n, 1),
-        Told::ClockEnd(n) => short_line(line, n, 2),
-        Told::Accepted => Out::new(),
-        Told::Done(n) => Out::new(),
-        Told::Clock(c, held) => Out::new(),
-        Told::Track => Out::new(),
-        Told::Point(p) => Out::new(),
-        Told::Count(n) => Out::new(),
+        Err(refusal) => refused_line(line, u8::from(refusal)),
+        Ok(Told::LogFull(n)) => short_line(line, n, LOG_FULL),
+        Ok(Told::ClockEnd(n)) => short_line(line, n, CLOCK_END),
+        Ok(_) => Out::new(),
     }
 }
 
@@ -92,45 +94,23 @@ pub struct Shown {
 fn unpacked_line(bytes: &[u8]) -> Out
     ensures { text_of result ≡ unpacked_line (unpack_of bytes.now) }
 {
-    let u = unpack(bytes);
-    match u {
-        Unpacked::Held(r) => record_line(r),
-        Unpacked::Refused(n) => Out::new(),
+    match unpack(bytes) {
+        Ok(r) => record_line(r),
+        Err(_) => Out::new(),
     }
-}
-
-// The lesser of two.
-fn least(a: usize, b: usize) -> usize
-    ensures { result ≡ min a b }
-{
-    if a < b { a } else { b }
-}
-
-// The place behind a record, at most the end.
-fn behind(at: usize, end: usize) -> usize
-    requires { at ≤ end }
-    ensures { result ≡ min (at + record_width) end }
-{
-    if end - at < Record::WIDTH {
-        return end;
-    }
-    at + Record::WIDTH
 }
 
 // So many records from a place of the log on are written as long as the buffer has room for a line.
 pub fn show(log: &[u8], from: usize, count: u64, out: &mut [u8]) -> Shown
     ensures { Shows log.now from count result out.old out.new }
 {
-    let mut at = least(from, log.len());
+    // No `for`: the room of the buffer ends this too, and the count may go past the log.
+    let mut at = from.min(log.len());
     let mut left = count;
-    let mut used: usize = 0;
-    while 0 < left {
-        if out.len() - used < Out::ROOM {
-            return Shown { at, left, used };
-        }
-        let end = behind(at, log.len());
-        let o = unpacked_line(&log[at..end]);
-        used = o.write(out, used);
+    let mut used = 0;
+    while 0 < left && Out::ROOM <= out.len() - used {
+        let end = (at + Record::WIDTH).min(log.len());
+        used = unpacked_line(&log[at..end]).write(out, used);
         at = end;
         left -= 1;
     }

@@ -1,39 +1,32 @@
 // Numbers in base ten, a line of output, and lines behind one another in a buffer.
-ghost use Rattle.std.specs.Prelude.{◌≡◌, [], ◌∷◌, ◌++◌, ◌+◌, ◌-◌, ◌≤◌, ◌<◌, length, drop};
+ghost use Rattle.std.specs.Prelude.{◌≡◌, [], ◌∷◌, ◌++◌, ◌+◌, ◌≤◌, length};
 ghost use Rattle.board.specs.Log.{position_of};
-ghost use Rattle.script.specs.Text.{digits_most, line_room, decimal, number_then, signed, text_of, IsDecimal, Adds, Wrote};
+ghost use Rattle.script.specs.Text.{digits_most, line_room, decimal, number_then, signed, text_of, Adds, Wrote};
 
 use track::Coordinate;
 
-// The digits of a number, from a place of the array on.
-#[derive(Clone, Copy)]
-pub struct Digits {
-    pub bytes: [u8; Digits::MOST],
-    pub from: usize,
-}
+// Digits of a number of 64 bits at most.
+const DIGITS: usize = 20;
 
-impl Digits {
-    // Digits of a number of 64 bits at most.
-    const MOST: usize = 20;
-}
-
-fn digits_of(n: u64) -> Digits
-    ensures { IsDecimal n result }
+// The digits of a number, written at the end of a buffer.
+fn digits_of(n: u64, buffer: &mut [u8; DIGITS]) -> &[u8]
+    ensures digits { result.now ≡ decimal n }
+    ensures few { length result.now ≤ digits_most }
 {
-    let mut bytes = [0u8; Digits::MOST];
-    let mut i: usize = Digits::MOST;
+    // No `for`: the number's digits end this, not the buffer's, and a loop over the buffer would have an end that is never reached.
+    let mut i: usize = DIGITS;
     let mut v = n;
     while 10 <= v {
         i -= 1;
-        bytes[i] = b'0' + (v % 10) as u8;
-        v = v / 10;
+        buffer[i] = b'0' + (v % 10) as u8;
+        v /= 10;
     }
     i -= 1;
-    bytes[i] = b'0' + v as u8;
-    Digits { bytes, from: i }
+    buffer[i] = b'0' + v as u8;
+    &buffer[i..]
 }
 
-// A line of output; none is longer than its room.
+// A line of output; none is longer than its room. Fixed memory: there is no heap for a `String`, and no clause says that `write!` succeeds.
 #[derive(Clone, Copy)]
 pub struct Out {
     pub length: usize,
@@ -53,83 +46,52 @@ impl Out {
         }
     }
 
-    fn push(self, b: u8) -> Out
-        requires { self.length < line_room }
-        ensures { Adds self (b ∷ []) 1 result }
+    // Bytes behind those that are there.
+    pub(crate) fn push(&mut self, bytes: &[u8])
+        requires { self.old.length + length bytes.now ≤ line_room }
+        ensures { Adds self.old bytes.now (length bytes.now) self.new }
     {
-        let mut o = self;
-        let n = o.length;
-        o.bytes[n] = b;
-        o.length = n + 1;
-        o
-    }
-
-    // The bytes from a place on.
-    pub(crate) fn push_from(self, s: &[u8], from: usize) -> Out
-        requires { (from ≤ length s.now) × (self.length + (length s.now - from) ≤ line_room) }
-        ensures { Adds self (drop from s.now) (length s.now - from) result }
-    {
-        let mut o = self;
-        let mut n = o.length;
-        let mut i = from;
-        while i < s.len() {
-            o.bytes[n] = s[i];
-            n += 1;
-            i += 1;
-        }
-        o.length = n;
-        o
-    }
-
-    fn push_number(self, n: u64) -> Out
-        requires { self.length + digits_most ≤ line_room }
-        ensures { Adds self (decimal n) digits_most result }
-    {
-        let d = digits_of(n);
-        let from = d.from;
-        self.push_from(&d.bytes, from)
+        let from = self.length;
+        let end = from + bytes.len();
+        self.bytes[from..end].copy_from_slice(bytes);
+        self.length = end;
     }
 
     // A number and the byte behind it.
-    pub(crate) fn number(self, n: u64, b: u8) -> Out
-        requires { self.length + digits_most + 1 ≤ line_room }
-        ensures { Adds self (number_then n b) (digits_most + 1) result }
+    pub(crate) fn number(&mut self, n: u64, b: u8)
+        requires { self.old.length + digits_most + 1 ≤ line_room }
+        ensures { Adds self.old (number_then n b) (digits_most + 1) self.new }
     {
-        let o = self.push_number(n);
-        o.push(b)
+        let mut buffer = [0u8; DIGITS];
+        self.push(digits_of(n, &mut buffer));
+        self.push(&[b]);
     }
 
     // The position of a coordinate, which wraps in four bytes, and a comma.
-    pub(crate) fn position(self, c: Coordinate) -> Out
-        requires { self.length + digits_most + 2 ≤ line_room }
-        ensures { Adds self (signed (position_of c) ++ (44 ∷ [])) (digits_most + 2) result }
+    pub(crate) fn position(&mut self, c: Coordinate)
+        requires { self.old.length + digits_most + 2 ≤ line_room }
+        ensures { Adds self.old (signed (position_of c) ++ (44 ∷ [])) (digits_most + 2) self.new }
     {
-        let k = c.0 as u64;
+        let k = u64::from(c.0);
         if k < 1000000 {
-            let o = self.push(b'-');
-            return o.number(1000000 - k, b',');
+            self.push(b"-");
+            self.number(1000000 - k, b',');
+        } else if k < 2148483648 {
+            self.number(k - 1000000, b',');
+        } else {
+            self.push(b"-");
+            self.number(4295967296 - k, b',');
         }
-        if k < 2148483648 {
-            return self.number(k - 1000000, b',');
-        }
-        let o = self.push(b'-');
-        o.number(4295967296 - k, b',')
     }
 
     // The line goes into a buffer behind what is there; the place behind it.
-    pub fn write(self, out: &mut [u8], used: usize) -> usize
+    pub fn write(&self, out: &mut [u8], used: usize) -> usize
         requires { used + line_room ≤ length out.old }
-        ensures { Wrote (text_of self) used out.old result out.new }
+        ensures { Wrote (text_of self.now) used out.old result out.new }
     {
-        let mut i: usize = 0;
-        while i < Out::ROOM {
-            if self.length <= i {
-                return used + i;
-            }
-            let at = used + i;
-            out[at] = self.bytes[i];
-            i += 1;
-        }
-        used + i
+        let text = &self.bytes[..self.length.min(Out::ROOM)];
+        let end = used + text.len();
+        out[used..end].copy_from_slice(text);
+        end
     }
 }

@@ -13,28 +13,10 @@ use Rattle.track.specs.Stride.{span, place, next}
 use Rattle.track.proofs.Tests.{cond_cases}
 use Rattle.track.proofs.Cycle.{near-mod, near_div, last-mod, last-div}
 
--- ---- where a step arrives, case by case
-module _ (t : Track) where
-  pub arrival-due : t.due ≡ DUE → t.position.0 ≡ arrival t
-  unfolding arrival
-  arrival-due d = simp (eq-eqb _ _ d)
-
-  module _ (d : t.due ≡ DUE → ⊥) where
-    pub arrival-end : t.direction ≡ BACKWARD → t.position.0 ≡ t.start.0 → t.end.0 ≡ arrival t
-    unfolding arrival
-    arrival-end b e = simp (ne_eqb _ _ d, eq-eqb _ _ b, eq-eqb _ _ e)
-
-    pub arrival-down : t.direction ≡ BACKWARD → (t.position.0 ≡ t.start.0 → ⊥) → t.position.0 - 1 ≡ arrival t
-    unfolding arrival
-    arrival-down b e = simp (ne_eqb _ _ d, eq-eqb _ _ b, ne_eqb _ _ e)
-
-    pub arrival-start : (t.direction ≡ BACKWARD → ⊥) → t.position.0 ≡ t.end.0 → t.start.0 ≡ arrival t
-    unfolding arrival
-    arrival-start b e = simp (ne_eqb _ _ d, ne_eqb _ _ b, eq-eqb _ _ e)
-
-    pub arrival-up : (t.direction ≡ BACKWARD → ⊥) → (t.position.0 ≡ t.end.0 → ⊥) → t.position.0 + 1 ≡ arrival t
-    unfolding arrival
-    arrival-up b e = simp (ne_eqb _ _ d, ne_eqb _ _ b, ne_eqb _ _ e)
+-- a backward track steps down, but from the start of its span
+pub arrival-down : (t : Track) → (t.due ≡ DUE → ⊥) → t.direction ≡ BACKWARD → (t.position.0 ≡ t.start.0 → ⊥) → t.position.0 - 1 ≡ arrival t
+unfolding arrival
+arrival-down t d b e = simp (ne_eqb _ _ d, eq-eqb _ _ b, ne_eqb _ _ e)
 
 -- home and far lie in the span, and are two locations
 module _ (t : Track) (v : Valid t) where
@@ -211,3 +193,6 @@ stop-unwaited t s = simp s
 pub entered-stands : (t : Track) (m : ℕ) → (m ≡ STOPPED → ⊥) → entered t m ≡ moved t m t.position.0 t.passes.0 t.due
 unfolding entered
 entered-stands t m n = simp (ne_eqb _ _ n)
+
+-- what the check may use of the next step
+pub ruleset arriving = (arrival-inside)

@@ -1,7 +1,7 @@
 -- The tests of a track's ranges and rules say whether the track keeps them.
 use Prim.Native.Nat.{ℕ, zero, suc, ◌≤◌, ◌<◌}
-use mathlib.Core.Path.{◌≡◌, refl, sym, ◌∙◌}
-use mathlib.Core.Bool.{Bool, true, false, not, ◌||◌, and-true, and-false}
+use mathlib.Core.Path.{◌≡◌, refl, sym}
+use mathlib.Core.Bool.{Bool, true, false, not, ◌||◌}
 use mathlib.Core.List.{List, [], ◌∷◌}
 use lib.Dec.{ltb, leb, eqb}
 use lib.ListN.{length, get_or}
@@ -12,10 +12,10 @@ use denote.Shadow.{shadow}
 use denote.Laws.{Is}
 use denote.Plain.{UInt}
 use denote.Array.{Array, each}
-use borrow.Author.Tests.{eqb-true, ltb-true, leb-true, lt-ltb, le-leb, lt-leb, eq-eqb}
+use borrow.Author.Tests.{eqb-true, ltb-true, leb-true, lt-ltb, le-leb, eq-eqb}
 use Rattle.track.specs.declared.Track.{Track}
 use Rattle.track.specs.declared.Ticks.{Ticks}
-use Rattle.track.specs.Rule.{every, Ordered, ordered_test, Cells, events_test, cells_test, Rated, rated_test, Valid, valid_test, Sound, sound_test, STOPPED, WAITING, BACKWARD, REPEATING, DUE, loops_most, cell_count, cell_most, rate_most, coordinate_last}
+use Rattle.track.specs.Rule.{Ordered, ordered_test, Cells, events_test, cells_test, Rated, rated_test, Valid, valid_test, Sound, sound_test, STOPPED, WAITING, BACKWARD, REPEATING, DUE, loops_most, cell_count, cell_most, rate_most, coordinate_last}
 use Rattle.track.proofs.Tests.{every_of, every-is, both, both_is, refuted}
 
 module _ (min max start end position : ℕ) where
@@ -117,16 +117,6 @@ module _ (steps ticks remainder mode : ℕ) where
       at_rest true e = simp e (eq-eqb _ _ (r.stands (eqb-true _ _ e)))
       at_rest false e = simp e
 
-  -- the last ways out of `rated`
-  module _ (some : 1 ≤ steps) (most : steps ≤ ticks) (last : ticks ≤ rate_most) (below : remainder < ticks) where
-    pub rated-goes : (mode ≡ STOPPED → ⊥) → true ≡ rated_test steps ticks remainder mode
-    rated-goes n = rated-is (record { some = some; most = most; last = last; below = below; stands = λ e. absurd (n e) })
-
-    pub rated-stands : mode ≡ STOPPED → eqb remainder 0 ≡ rated_test steps ticks remainder mode
-    unfolding rated_test every
-    rated-stands e =
-        simp (le-leb _ _ some, le-leb _ _ most, le-leb _ _ last, lt-ltb _ _ below, eq-eqb mode STOPPED e, and-true)
-
 module _ (t : Track) where
   rules : List Bool
   rules =
@@ -173,6 +163,9 @@ module _ (t : Track) where
         ),
       ))
 
+  pub valid-not-repeat : REPEATING < t.repeat → false ≡ valid_test t
+  valid-not-repeat h = refuted _ (λ g. omega (arith, valid-of g))
+
   pub sound-of : {clock : Ticks} → sound_test t clock ≡ true → Sound t clock
   unfolding sound_test
   sound-of {clock} h =
@@ -182,33 +175,3 @@ module _ (t : Track) where
   pub sound-is : {clock : Ticks} → Sound t clock → true ≡ sound_test t clock
   unfolding sound_test
   sound-is s = simp (← valid-is s.valid, le-leb _ _ s.passes)
-
-  -- the ways out of `valid` and `sound`
-  pub valid-not-ordered : ordered_test t.min.0 t.max.0 t.start.0 t.end.0 t.position.0 ≡ false → false ≡ valid_test t
-  unfolding valid_test every
-  valid-not-ordered h = simp h
-
-  pub valid-not-repeat : REPEATING < t.repeat → false ≡ valid_test t
-  valid-not-repeat h = refuted _ (λ g. omega (arith, valid-of g))
-
-  pub valid-not-cells : {o : Bool} → o ≡ cells_test t.actions → o ≡ false → false ≡ valid_test t
-  unfolding valid_test every
-  valid-not-cells e h = simp (← e, h, and-false)
-
-  pub valid-rated : {o d r : Bool} → o ≡ ordered_test t.min.0 t.max.0 t.start.0 t.end.0 t.position.0 → o ≡ true →
-      (1 ≤ t.loops) × (t.loops ≤ loops_most) → t.mode ≤ WAITING → t.direction ≤ BACKWARD → t.repeat ≤ REPEATING → t.due ≤ DUE →
-      d ≡ cells_test t.actions → d ≡ true → r ≡ rated_test t.steps t.ticks t.remainder t.mode → r ≡ valid_test t
-  unfolding valid_test every
-  valid-rated e h l m d p u f k q =
-      q ∙ simp (← e, h, le-leb _ _ l.0, le-leb _ _ l.1, le-leb _ _ m, le-leb _ _ d, le-leb _ _ p, le-leb _ _ u, ← f, k, and-true)
-
-  pub sound-late : {clock : Ticks} → clock.0 < t.passes.0 → false ≡ sound_test t clock
-  unfolding sound_test
-  sound-late {clock} h = simp (lt-leb t.passes.0 clock.0 h, and-false)
-
-  pub sound-valid : {clock : Ticks} {r : Bool} → t.passes.0 ≤ clock.0 → r ≡ valid_test t → r ≡ sound_test t clock
-  unfolding sound_test
-  sound-valid {clock} h e = e ∙ simp (le-leb t.passes.0 clock.0 h, and-true)
-
--- what the check may use where a flag is above 1
-pub ruleset flags = (valid-not-repeat)

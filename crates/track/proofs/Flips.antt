@@ -9,19 +9,45 @@ use lib.IntN.{pos}
 use borrow.Author.Tests.{eqb-true, eqb-false, eq-eqb, ne_eqb, le-leb, not-true}
 use Rattle.track.specs.declared.Track.{Track}
 use Rattle.track.specs.declared.setup.Change.TheVariants as change
-use Rattle.track.specs.declared.setup.Changed.{Changed}
 use Rattle.track.specs.Rule.{STOPPED, PLAYING, PAUSED, WAITING, BACKWARD, VISITED, DUE, backward, repeats, Valid, home, far, moved, rewound, stopped, entered}
 use Rattle.track.specs.Walk.{arrival, passes_at, stops, visited, step}
 use Rattle.track.specs.Stride.{span, stride}
 use Rattle.track.specs.Follow.{distance}
-use Rattle.track.specs.Setup.{refused, accepted, settled, permits, turned, closes, turned_to, direction_set, set_by, changed_by}
+use Rattle.track.specs.Setup.{Changed, refused, accepted, settled, permits, turned, closes, turned_to, direction_set, set_by, changed_by}
 use Rattle.track.specs.Flip.{directed, resumed, Closing}
 use Rattle.track.proofs.Tests.{both, refuted, cond_cases}
 use Rattle.track.proofs.Numbers.{natural-of}
 use Rattle.track.proofs.Arrivals.{far-home, moved-valid, entered-valid}
 use Rattle.track.proofs.Strides.{stride-zero, stride-suc}
 use Rattle.track.proofs.Setups.{changed-keeps}
-use Rattle.track.proofs.Exits.{settled-stopped, settled-else, closes-far, turned-to-rewound, turned-to-due, turned-to-alone}
+
+-- ---- what the call's definitions come to
+
+settled-stopped : {m : ℕ} → m ≡ STOPPED → settled m ≡ true
+unfolding settled
+settled-stopped e = simp (eq-eqb _ _ e)
+
+settled-else : {m : ℕ} → (m ≡ STOPPED → ⊥) → settled m ≡ eqb m PAUSED
+unfolding settled
+settled-else n = simp (ne_eqb _ _ n)
+
+module _ (t : Track) (k : ℕ) where
+  closes-far : (k ≡ t.direction → ⊥) → t.mode ≡ PAUSED → t.due ≡ VISITED → closes t k ≡ eqb t.position.0 (far (turned t k))
+  unfolding closes
+  closes-far n p d = simp (ne_eqb k t.direction n, eq-eqb _ _ p, eq-eqb _ _ d)
+
+  turned-to-rewound : t.mode ≡ STOPPED → turned_to t k ≡ rewound (turned t k)
+  unfolding turned_to
+  turned-to-rewound e = simp (eq-eqb _ _ e)
+
+  module _ (n : t.mode ≡ STOPPED → ⊥) where
+    turned-to-due : closes t k ≡ true → turned_to t k ≡ moved (turned t k) t.mode t.position.0 t.passes.0 DUE
+    unfolding turned_to
+    turned-to-due h = simp (ne_eqb _ _ n, h)
+
+    turned-to-alone : closes t k ≡ false → turned_to t k ≡ turned t k
+    unfolding turned_to
+    turned-to-alone h = simp (ne_eqb _ _ n, h)
 
 -- ---- a flip exchanges home and far, and with them the distance from home
 
@@ -60,18 +86,18 @@ module _ (t : Track) (k : ℕ) where
 
     -- a STOPPED one rewinds by the new direction, be it the old one or not
     pub stopped-rewinds : t.mode ≡ STOPPED → directed t k ≡ accepted (rewound (turned t k))
-    stopped-rewinds e = set-direction (sym (settled-stopped e)) ∙ ap accepted (sym (turned-to-rewound t k e refl))
+    stopped-rewinds e = set-direction (settled-stopped e) ∙ ap accepted (turned-to-rewound t k e)
 
     module _ (paused : t.mode ≡ PAUSED) where
       unstopped : t.mode ≡ STOPPED → ⊥
       unstopped e = omega (arith, sym paused ∙ e)
 
       settled-paused : settled t.mode ≡ true
-      settled-paused = sym (settled-else unstopped) ∙ eq-eqb _ _ paused
+      settled-paused = settled-else unstopped ∙ eq-eqb _ _ paused
 
       turned_by : (b : Bool) → closes t k ≡ b → directed t k ≡ accepted (cond b (moved (turned t k) t.mode t.position.0 t.passes.0 DUE) (turned t k))
-      turned_by true e = set-direction settled-paused ∙ ap accepted (sym (turned-to-due t k unstopped refl e refl))
-      turned_by false e = set-direction settled-paused ∙ ap accepted (sym (turned-to-alone t k unstopped refl e refl))
+      turned_by true e = set-direction settled-paused ∙ ap accepted (turned-to-due t k unstopped e)
+      turned_by false e = set-direction settled-paused ∙ ap accepted (turned-to-alone t k unstopped e)
 
       module _ (v : Valid t) where
         -- the rule's test says just that
@@ -115,7 +141,7 @@ module _ (t : Track) (k : ℕ) (c : Closing t k) where
   pub turned-closes : directed t k ≡ accepted (moved (turned t k) PAUSED t.position.0 t.passes.0 DUE)
   turned-closes =
       turned_by t k c.direction c.paused true
-      (sym (closes-far t k c.flips c.paused c.visited refl) ∙ eq-eqb _ _ c.at_far)
+      (closes-far t k c.flips c.paused c.visited ∙ eq-eqb _ _ c.at_far)
       ∙ ap (λ (m : ℕ). accepted (moved (turned t k) m t.position.0 t.passes.0 DUE)) c.paused
 
   -- and stands due, as it stood, when it plays again

@@ -1,163 +1,76 @@
 -- Followers: the test of their rules says whether they keep them, and what a pass over a row of thresholds comes to.
 use Prim.Native.Nat.{ℕ, zero, suc, ◌+◌, ◌≤◌, ◌<◌}
 use mathlib.Core.Path.{◌≡◌, refl, sym, ◌∙◌, ap}
-use mathlib.Core.Bool.{Bool, true, false, not, ◌&&◌, ◌||◌, and-true, and-false, false≢true}
+use mathlib.Core.Bool.{Bool, true, false, cond, not, ◌&&◌, ◌||◌, and_assoc}
 use mathlib.Core.List.{List, [], ◌∷◌}
 use native.Mathlib.Numerals.{add-one}
 use native.Mathlib.Omega.{arith}
 use lib.Dec.{ltb, leb, eqb}
 use lib.ListN.{length, get_or, drop, drop_of_length-le}
+use Rattle.std.proofs.Common.{nat_eq, nat_lt}
+use Rattle.std.specs.List.{prefix_len, list_all}
 use lib.Seq.{drop-cons}
-use borrow.Author.Tests.{eqb-true, leb-true, lt-ltb, le-ltb, le-leb, lt-leb, eq-eqb, ne_eqb}
+use borrow.Author.Tests.{eqb-true, leb-true, le-leb, eq-eqb, ne_eqb}
 use Rattle.track.specs.declared.Track.{Track}
 use Rattle.track.specs.declared.Ticks.{Ticks}
-use Rattle.track.specs.Rule.{every, STOPPED, threshold_count, threshold_most, event_most, Sound, moved, stopped, with_remainder, entered}
+use Rattle.track.specs.Rule.{STOPPED, threshold_count, threshold_most, event_most, Sound, moved, stopped, with_remainder, entered}
 use Rattle.track.specs.Walk.{stops, visited, step}
 use Rattle.track.specs.Stride.{stride}
 use Rattle.track.specs.Leap.{moves, remainder_left, played, steps_in, remainder_after, leap}
 use Rattle.track.specs.Follow.{up_to_zero, thresholds_of, distance, apart, band_of, judged, banded, following, zeros_test, pairs_test, Follower, follower_test}
-use Rattle.track.proofs.Tests.{cond_cases, every_of, every-is, refuted}
+use Rattle.track.proofs.Tests.{cond_cases, every_of, every-is}
 
--- ---- a row of thresholds up to its first 0
+-- ---- a row of thresholds up to its first 0: how many there are, and the band of a drift
 
-up-some : (x : ℕ) (xs : List ℕ) → (x ≡ 0 → ⊥) → up_to_zero (x ∷ xs) ≡ x ∷ up_to_zero xs
+pub count-is : (row : List ℕ) → prefix_len (λ x. not (nat_eq x 0)) row ≡ length (up_to_zero row)
 unfolding up_to_zero
-up-some zero xs h = absurd (h refl)
-up-some (suc x) xs h = refl
+count-is [] = refl
+count-is (zero ∷ row) = refl
+count-is (suc x ∷ row) = let n : eqb (suc x) 0 ≡ false = ne_eqb _ _ (omega arith) in simp (n, count-is row) (omega arith)
 
-module _ (row : List ℕ) (k : ℕ) where
-  head-some : k < length row → (get_or row k 0 ≡ 0 → ⊥) → up_to_zero (drop k row) ≡ get_or row k 0 ∷ up_to_zero (drop (k + 1) row)
-  head-some l h = rw (add-one, drop-cons row k 0 l, up-some (get_or row k 0) (drop (suc k) row) h)
-
-  head-none : k < length row → get_or row k 0 ≡ 0 → up_to_zero (drop k row) ≡ []
-  unfolding up_to_zero
-  head-none l h = rw (drop-cons row k 0 l, h)
-
-  head-end : length row ≤ k → up_to_zero (drop k row) ≡ []
-  unfolding up_to_zero
-  head-end l = rw (drop_of_length-le row {i = k} l)
-
-  -- how many there are
-  pub count_next : k < length row → (get_or row k 0 ≡ 0 → ⊥) →
-      k + 1 + length (up_to_zero (drop (k + 1) row)) ≡ k + length (up_to_zero (drop k row))
-  count_next l h =
-      let e : length (up_to_zero (drop k row)) ≡ suc (length (up_to_zero (drop (k + 1) row))) = ap length (head-some l h) in
-      omega arith
-
-  pub count_none : k < length row → get_or row k 0 ≡ 0 → length (up_to_zero (drop k row)) ≡ 0
-  count_none l h = ap length (head-none l h)
-
-  pub count-end : length row ≤ k → length (up_to_zero (drop k row)) ≡ 0
-  count-end l = ap length (head-end l)
-
-  -- the band of a drift
-  module _ (drift : ℕ) where
-    pub band-next : k < length row → (get_or row k 0 ≡ 0 → ⊥) → get_or row k 0 < drift →
-        k + 1 + band_of (up_to_zero (drop (k + 1) row)) drift ≡ k + band_of (up_to_zero (drop k row)) drift
-    unfolding band_of
-    band-next l h m =
-        let e : band_of (up_to_zero (drop k row)) drift ≡ suc (band_of (up_to_zero (drop (k + 1) row)) drift) =
-        rw (head-some l h, lt-ltb (get_or row k 0) drift m) in
-        omega arith
-
-    pub band-none : k < length row → get_or row k 0 ≡ 0 → band_of (up_to_zero (drop k row)) drift ≡ 0
-    unfolding band_of
-    band-none l h = rw (head-none l h)
-
-    pub band-stays : k < length row → (get_or row k 0 ≡ 0 → ⊥) → drift ≤ get_or row k 0 → band_of (up_to_zero (drop k row)) drift ≡ 0
-    unfolding band_of
-    band-stays l h m = rw (head-some l h, le-ltb (get_or row k 0) drift m)
-
-    pub band-end : length row ≤ k → band_of (up_to_zero (drop k row)) drift ≡ 0
-    unfolding band_of
-    band-end l = rw (head-end l)
+pub band-is : (row : List ℕ) (drift : ℕ) → prefix_len (λ x. not (nat_eq x 0) && nat_lt x drift) row ≡ band_of (up_to_zero row) drift
+unfolding up_to_zero band_of
+band-is [] drift = refl
+band-is (zero ∷ row) drift = refl
+band-is (suc x ∷ row) drift =
+    let n : eqb (suc x) 0 ≡ false = ne_eqb _ _ (omega arith) in
+    simp (n, band-is row drift) (at (ltb (suc x) drift))
+  where
+    at : (b : Bool) → cond b (1 + band_of (up_to_zero row) drift) 0 ≡ cond b (suc (band_of (up_to_zero row) drift)) 0
+    at true = omega arith
+    at false = refl
 
 -- ---- thresholds and their events
 
-abbrev pub pair_test : ℕ → ℕ → ℕ → Bool
-pair_test low threshold event = ltb low threshold && (leb threshold threshold_most && (leb 1 event && leb event event_most))
-
-module _ (low threshold event : ℕ) where
-  pub pair-low : threshold ≤ low → false ≡ pair_test low threshold event
-  pair-low h = simp (le-ltb low threshold h)
-
-  pub pair-high : threshold_most < threshold → false ≡ pair_test low threshold event
-  pair-high h = simp (lt-leb threshold threshold_most h, and-false)
-
-  pub pair-none : event ≡ 0 → false ≡ pair_test low threshold event
-  pair-none h = simp (h, and-false)
-
-  pub pair-event : low < threshold → threshold ≤ threshold_most → (event ≡ 0 → ⊥) → leb event event_most ≡ pair_test low threshold event
-  pair-event l m h =
-      let o : leb 1 event ≡ true = le-leb 1 event (omega arith) in
-      simp (lt-ltb low threshold l, le-leb threshold threshold_most m, o)
-
-and_first : (a b c d r : Bool) → (a && (b && (c && d))) ≡ true → (a && (b && (c && (d && r)))) ≡ r
-and_first true true true true r h = refl
-and_first true true true false r h = absurd (false≢true h)
-and_first true true false d r h = absurd (false≢true h)
-and_first true false c d r h = absurd (false≢true h)
-and_first false b c d r h = absurd (false≢true h)
-
-and_none : (a b c d r : Bool) → (a && (b && (c && d))) ≡ false → (a && (b && (c && (d && r)))) ≡ false
-and_none true true true true r h = absurd (false≢true (sym h))
-and_none true true true false r h = refl
-and_none true true false d r h = refl
-and_none true false c d r h = refl
-and_none false b c d r h = refl
-
--- nothing but 0 from a place on
-abbrev zeros_from : List ℕ → List ℕ → ℕ → Bool
-zeros_from xs es k = zeros_test (drop k xs) && zeros_test (drop k es)
-
-module _ (xs es : List ℕ) (k : ℕ) where
-  module _ (l : k < length xs) (m : k < length es) where
-    pub zeros-next : get_or xs k 0 ≡ 0 → get_or es k 0 ≡ 0 → zeros_from xs es (k + 1) ≡ zeros_from xs es k
-    unfolding zeros_test
-    zeros-next g h = rw (add-one, drop-cons xs k 0 l, drop-cons es k 0 m, g, h)
-
-    pub zeros-first : (get_or xs k 0 ≡ 0 → ⊥) → false ≡ zeros_from xs es k
-    unfolding zeros_test
-    zeros-first n = rw (drop-cons xs k 0 l, ne_eqb (get_or xs k 0) 0 n)
-
-    pub zeros-second : (get_or es k 0 ≡ 0 → ⊥) → false ≡ zeros_from xs es k
-    unfolding zeros_test
-    zeros-second n = rw (drop-cons es k 0 m, ne_eqb (get_or es k 0) 0 n, and-false)
-
-  pub zeros-end : length xs ≤ k → length es ≤ k → true ≡ zeros_from xs es k
-  unfolding zeros_test
-  zeros-end l m = rw (drop_of_length-le xs {i = k} l, drop_of_length-le es {i = k} m)
+zeros-is : (xs : List ℕ) → zeros_test xs ≡ list_all (λ x. nat_eq x 0) xs
+unfolding zeros_test
+zeros-is [] = refl
+zeros-is (x ∷ xs) = simp (zeros-is xs)
 
 module _ (low : ℕ) (xs es : List ℕ) (k : ℕ) where
   module _ (l : k < length xs) (m : k < length es) where
-    pub pairs-none : get_or xs k 0 ≡ 0 → {b : Bool} → b ≡ zeros_from xs es k → b ≡ pairs_test low (drop k xs) (drop k es)
+    -- at a 0 there is nothing but 0 from there on
+    pub pairs_none : get_or xs k 0 ≡ 0 →
+        pairs_test low (drop k xs) (drop k es) ≡ (list_all (λ x. nat_eq x 0) (drop k xs) && list_all (λ x. nat_eq x 0) (drop k es))
     unfolding pairs_test zeros_test
-    pairs-none h e = e ∙ rw (drop-cons xs k 0 l, drop-cons es k 0 m, h)
+    pairs_none h = rw (drop-cons xs k 0 l, drop-cons es k 0 m, h, zeros-is, zeros-is)
 
-    module _ (h : get_or xs k 0 ≡ 0 → ⊥) {b : Bool} (e : b ≡ pair_test low (get_or xs k 0) (get_or es k 0)) where
-      opened : pairs_test low (drop k xs) (drop k es)
-          ≡ (ltb low (get_or xs k 0)
-          && (leb (get_or xs k 0) threshold_most
-          && (leb 1 (get_or es k 0) && (leb (get_or es k 0) event_most && pairs_test (get_or xs k 0) (drop (suc k) xs) (drop (suc k) es)))))
-      unfolding pairs_test
-      opened = rw (drop-cons xs k 0 l, drop-cons es k 0 m, ne_eqb (get_or xs k 0) 0 h)
+    -- at a threshold the pair keeps its rules, and so do those behind it
+    pub pairs_some : (get_or xs k 0 ≡ 0 → ⊥) →
+        pairs_test low (drop k xs) (drop k es)
+        ≡ ((ltb low (get_or xs k 0)
+        && (leb (get_or xs k 0) threshold_most
+        && (leb 1 (get_or es k 0) && leb (get_or es k 0) event_most)))
+        && pairs_test (get_or xs k 0) (drop (k + 1) xs) (drop (k + 1) es))
+    unfolding pairs_test
+    pairs_some h = rw (add-one, drop-cons xs k 0 l, drop-cons es k 0 m, ne_eqb (get_or xs k 0) 0 h) (simp and_assoc)
 
-      pub pairs_next : b ≡ true → pairs_test (get_or xs k 0) (drop (k + 1) xs) (drop (k + 1) es) ≡ pairs_test low (drop k xs) (drop k es)
-      pairs_next g =
-          rw add-one
-          (sym (opened
-          ∙ and_first (ltb low (get_or xs k 0)) (leb (get_or xs k 0) threshold_most) (leb 1 (get_or es k 0)) (leb (get_or es k 0) event_most)
-          (pairs_test (get_or xs k 0) (drop (suc k) xs) (drop (suc k) es)) (sym e ∙ g)))
-
-      pub pairs-bad : b ≡ false → false ≡ pairs_test low (drop k xs) (drop k es)
-      pairs-bad g =
-          sym (opened
-          ∙ and_none (ltb low (get_or xs k 0)) (leb (get_or xs k 0) threshold_most) (leb 1 (get_or es k 0)) (leb (get_or es k 0) event_most)
-          (pairs_test (get_or xs k 0) (drop (suc k) xs) (drop (suc k) es)) (sym e ∙ g))
-
-  pub pairs_end : length xs ≤ k → length es ≤ k → true ≡ pairs_test low (drop k xs) (drop k es)
+  pub pairs_end : length xs ≤ k → length es ≤ k → pairs_test low (drop k xs) (drop k es) ≡ true
   unfolding pairs_test zeros_test
   pairs_end l m = rw (drop_of_length-le xs {i = k} l, drop_of_length-le es {i = k} m)
+
+-- what the check may use of a pass over them
+pub ruleset pairing = (pairs_none, pairs_some, pairs_end)
 
 -- ---- the rules of a follower
 
@@ -194,24 +107,6 @@ module _ (t : Track) (clock : Ticks) where
       first : (b : Bool) → eqb clock.0 0 ≡ b → (not b || eqb t.band 0) ≡ true
       first true e = eq-eqb _ _ (f.start (eqb-true _ _ e))
       first false e = refl
-
-  -- the ways out of `follower_kept`
-  pub follower-pairs : {b : Bool} → b ≡ pairs_test 0 t.thresholds t.events → b ≡ false → false ≡ follower_test t clock
-  follower-pairs e h = refuted _ (λ g. false≢true (sym h ∙ e ∙ (follower-of g).pairs))
-
-  pub follower-early : clock.0 ≡ 0 → (t.band ≡ 0 → ⊥) → false ≡ follower_test t clock
-  follower-early z h = refuted _ (λ g. h ((follower-of g).start z))
-
-  module _ (l : length t.thresholds ≡ threshold_count) (m : length t.events ≡ threshold_count)
-      {b : Bool} (e : b ≡ pairs_test 0 t.thresholds t.events) (h : b ≡ true) where
-    pub follower-none : t.band ≡ 0 → true ≡ follower_test t clock
-    follower-none z =
-        follower-is (record { thresholds = l; events = m; pairs = sym e ∙ h; band = omega arith; start = λ c. z })
-
-    pub follower-band : (clock.0 ≡ 0 → ⊥) → {n : ℕ} → n ≡ length (thresholds_of t) → leb t.band n ≡ follower_test t clock
-    unfolding follower_test every
-    follower-band z q =
-        simp (q, eq-eqb _ _ l, eq-eqb _ _ m, sym e ∙ h, ne_eqb clock.0 0 z, and-true)
 
 -- ---- what keeps them
 
@@ -353,21 +248,3 @@ unfolding judged
 judged-most t m =
     cond_cases (λ (k : ℕ). k ≤ length (thresholds_of t)) (eqb t.mode STOPPED || eqb m.mode STOPPED) (λ _. omega arith)
     (λ _. band-most (thresholds_of t) (apart (distance t) (distance m)))
-
-module _ (t m : Track) where
-  pub judged-stopped : t.mode ≡ STOPPED → 0 ≡ judged t m
-  unfolding judged
-  judged-stopped h = simp (eq-eqb _ _ h)
-
-  pub judged-led : (t.mode ≡ STOPPED → ⊥) → m.mode ≡ STOPPED → 0 ≡ judged t m
-  unfolding judged
-  judged-led h g = simp (ne_eqb _ _ h, eq-eqb _ _ g)
-
-  pub judged-both : (t.mode ≡ STOPPED → ⊥) → (m.mode ≡ STOPPED → ⊥) → {x y d k : ℕ} → x ≡ distance t → y ≡ distance m →
-      d ≡ apart x y → k ≡ band_of (thresholds_of t) d → k ≡ judged t m
-  unfolding judged
-  judged-both h g p q e b =
-      b ∙ ap (band_of (thresholds_of t)) (e ∙ (λ i. apart (p i) (q i))) ∙ simp (ne_eqb _ _ h, ne_eqb _ _ g)
-
--- what the check may use where a follower's band is none, or a lent one's can't be
-pub ruleset judging = (judged-stopped, follower-early)

@@ -308,3 +308,6 @@ module _ (t : Track) (v : Valid t) (w : Bool) where
           step-goes (with_remainder t r) w (remainder-stops t r ∙ e)
           ∙ ap (λ (k : ℕ). with_remainder (visited t (cond w WAITING t.mode)) k) (kept w)
           ∙ sym (ap (λ (u : Track). with_remainder u (cond (eqb u.mode STOPPED) 0 r)) (step-goes t w e))
+
+-- what the check may use of many ticks
+pub ruleset leaping = (leap-zero, steps-most)

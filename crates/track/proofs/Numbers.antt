@@ -1,61 +1,61 @@
 -- The laws of the numbers of a call: what was read is in its range, and reading is inverse to writing.
+use Rattle.std.specs.Prelude.{Option, Some, None, IfSome}
+use mathlib.Core.Logic.{◌⊎◌, inl, inr}
+use Rattle.std.proofs.lemmas.Option.{none-some, same_Some}
+use Rattle.std.proofs.lemmas.Bool.Decides.{nat_tests}
 use mathlib.Core.Path.{◌≡◌, refl, sym, ap, subst, ◌∙◌}
 use mathlib.Core.Bool.{Bool, true, false, cond, ◌&&◌}
 use Prim.Native.Nat.{ℕ, suc, ◌+◌, ◌-◌, ◌<◌, ◌≤◌, min}
 use native.Mathlib.Omega.{arith}
-use borrow.Author.Tests.{ltb-true, ltb-false, leb-true, leb-false, le-ltb, le-leb, lt-leb}
+use borrow.Author.Tests.{ltb-true, ltb-false, leb-true, leb-false, lt-ltb, le-ltb, le-leb, lt-leb}
 use lib.Dec.{ltb, leb}
 use lib.IntN.{ℤ, pos, negsuc, sub_ℕ}
 use lib.Signed.{le_z}
 use mir.Syntax.{w64}
 use mir.Val.{SFits, to_z, of_z}
 use mir.Facts.{to_z-of_z}
-use Rattle.track.proofs.Signs.{sub-yes, sub-no}
-use Rattle.track.proofs.Tests.{both}
 use Rattle.track.specs.Rule.{coordinate_last}
-use Rattle.track.specs.Number.{natural_of, capped_of, coordinate_of, coordinate_at, within, value_of, clamped_of, on_natural, on_place}
+use Rattle.track.specs.Number.{natural_of, capped_of, coordinate_of, coordinate_at, within, value_of, clamped_of, on_some}
 use Rattle.track.specs.declared.Coordinate.{Coordinate}
-use Rattle.track.specs.declared.number.Natural.{Natural}
-use Rattle.track.specs.declared.number.Natural.TheVariants as natural
-use Rattle.track.specs.declared.number.Place.{Place}
-use Rattle.track.specs.declared.number.Place.TheVariants as place
 
--- ---- a number that was read is in its range
-In? : Natural → (ℕ → Type 0) → Type 0
-In? (natural.In k) P = P k
-In? natural.Outside P = Unit {0}
+-- ---- a number that was read from least to most is that number, from least to most
+natural_range : (n : ℤ) (least most : ℕ) → IfSome (natural_of n least most) (λ k. (n ≡ pos k) × (least ≤ k) × (k ≤ most))
+unfolding natural_of
+natural_range (pos k) least most = grind (arith, nat_tests)
+natural_range (negsuc k) least most = tt
 
-natural-range : (n : ℤ) (least most : ℕ) → In? (natural_of n least most) (λ k. (n ≡ pos k) × (least ≤ k) × (k ≤ most))
-unfolding natural_of In?
-natural-range (pos k) least most = at (leb k most && leb least k) refl
+pub natural-in : (n : ℤ) (least most : ℕ) {k : ℕ} → natural_of n least most ≡ Some k → (n ≡ pos k) × (least ≤ k) × (k ≤ most)
+natural-in n least most e = rw e at (natural_range n least most)
+
+-- one is read from least to most, or none; the first part gives `grind` the term to match
+pub natural_cases : (n : ℤ) (least most : ℕ) →
+    (natural_of n least most ≡ natural_of n least most)
+    × (((k : ℕ) × (natural_of n least most ≡ Some k) × (least ≤ k) × (k ≤ most)) ⊎ (natural_of n least most ≡ None))
+natural_cases n least most = (refl, go (natural_of n least most) (natural_range n least most))
   where
-    at : (t : Bool) → (leb k most && leb least k) ≡ t →
-        In? (cond t (natural.In k) natural.Outside) (λ j. (pos k ≡ pos j) × (least ≤ j) × (j ≤ most))
-    at true e = let b = both (leb k most) (leb least k) e in (refl, leb-true _ _ b.1, leb-true _ _ b.0)
-    at false e = tt
-natural-range (negsuc k) least most = tt
-
--- a number read from least to most is that number, from least to most
-pub natural-in : (n : ℤ) (least most : ℕ) {k : ℕ} → natural_of n least most ≡ natural.In k → (n ≡ pos k) × (least ≤ k) × (k ≤ most)
-unfolding In?
-natural-in n least most e =
-    subst (λ (p : Natural). In? p (λ k. (n ≡ pos k) × (least ≤ k) × (k ≤ most))) e (natural-range n least most)
+    go : (o : Option ℕ) → IfSome o (λ k. (n ≡ pos k) × (least ≤ k) × (k ≤ most)) → ((k : ℕ) × (o ≡ Some k) × (least ≤ k) × (k ≤ most)) ⊎ (o ≡ None)
+    go (Some k) h = inl (k, refl, h.1, h.2)
+    go None h = inr refl
 
 -- and every number from least to most is read
-pub natural-of : (k least most : ℕ) → least ≤ k → k ≤ most → natural_of (pos k) least most ≡ natural.In k
+pub natural-of : (k least most : ℕ) → least ≤ k → k ≤ most → natural_of (pos k) least most ≡ Some k
 unfolding natural_of
 natural-of k least most h l = simp (le-leb _ _ l, le-leb _ _ h)
 
 -- a number brought down to most is not negative, and that number or most
-pub capped-in : (n : ℤ) (most : ℕ) {k : ℕ} → capped_of n most ≡ natural.In k → (j : ℕ) × (n ≡ pos j) × (k ≡ min j most)
-unfolding capped_of In?
-capped-in n most {k} e = subst (λ (p : Natural). In? p (λ k. (j : ℕ) × (n ≡ pos j) × (k ≡ min j most))) e (go n)
-  where
-    go : (n : ℤ) → In? (capped_of n most) (λ k. (j : ℕ) × (n ≡ pos j) × (k ≡ min j most))
-    go (pos j) = (j, refl, refl)
-    go (negsuc j) = tt
+pub capped-in : (n : ℤ) (most : ℕ) {k : ℕ} → capped_of n most ≡ Some k → (j : ℕ) × (n ≡ pos j) × (k ≡ min j most)
+unfolding capped_of
+capped-in (pos j) most e = (j, refl, same_Some _ _ (sym e))
+capped-in (negsuc j) most e = absurd (none-some _ e)
 
 -- ---- coordinates and positions are inverse
+
+-- a difference of naturals, by which is greater
+sub-yes : (a b : ℕ) → b ≤ a → sub_ℕ a b ≡ pos (a - b)
+sub-yes a b h = simp (le-ltb a b h) refl
+
+sub-no : (a b : ℕ) → a < b → sub_ℕ a b ≡ negsuc (b - suc a)
+sub-no a b h = simp (lt-ltb a b h) refl
 
 -- the position of the coordinate k, by its sign
 pub by_sign : (P : ℤ → Type 0) (k : ℕ) → (1000000 ≤ k → P (pos (k - 1000000))) → (k < 1000000 → P (negsuc (1000000 - suc k))) →
@@ -68,12 +68,12 @@ by_sign P k f g = at (ltb k 1000000) refl
     at false e = subst P (sym (sub-yes k 1000000 (ltb-false _ _ e))) (f (ltb-false _ _ e))
 
 -- the coordinate of a coordinate's position is that coordinate
-pub coordinate-value : (c : Coordinate) → c.0 ≤ coordinate_last → coordinate_of (value_of c) ≡ place.At c
+pub coordinate-value : (c : Coordinate) → c.0 ≤ coordinate_last → coordinate_of (value_of c) ≡ Some c
 unfolding coordinate_of
 coordinate-value c h =
-    by_sign (λ (z : ℤ). coordinate_of z ≡ place.At c) c.0
-    (λ l. simp (le-ltb 1000000 (c.0 - 1000000) (omega arith)) (ap (λ (k : ℕ). place.At (record { 0 = k })) (omega arith)))
-    (λ l. simp (le-ltb 999999 (1000000 - suc c.0) (omega arith)) (ap (λ (k : ℕ). place.At (record { 0 = k })) (omega arith)))
+    by_sign (λ (z : ℤ). coordinate_of z ≡ Some c) c.0
+    (λ l. simp (le-ltb 1000000 (c.0 - 1000000) (omega arith)) (ap (λ (k : ℕ). Some (record { 0 = k })) (omega arith)))
+    (λ l. simp (le-ltb 999999 (1000000 - suc c.0) (omega arith)) (ap (λ (k : ℕ). Some (record { 0 = k })) (omega arith)))
 
 -- the same of any coordinate, where the position is taken for one
 pub coordinate-at : (c : Coordinate) → coordinate_at (value_of c) ≡ c
@@ -82,44 +82,34 @@ coordinate-at c =
     by_sign (λ (z : ℤ). coordinate_at z ≡ c) c.0
     (λ l. ap (λ (k : ℕ). record { 0 = k }) (omega arith)) (λ l. ap (λ (k : ℕ). record { 0 = k }) (omega arith))
 
-At? : Place → (Coordinate → Type 0) → Type 0
-At? (place.At c) P = P c
-At? place.Outside P = Unit {0}
-
-at_value : (n : ℤ) → At? (coordinate_of n) (λ c. (value_of c ≡ n) × (c.0 ≤ coordinate_last))
-unfolding coordinate_of value_of At?
-at_value (pos k) = at (ltb 1000000 k) refl
+coordinate_range : (n : ℤ) → IfSome (coordinate_of n) (λ c. (value_of c ≡ n) × (c.0 ≤ coordinate_last))
+unfolding coordinate_of value_of
+coordinate_range (pos k) = at (ltb 1000000 k) refl
   where
     at : (t : Bool) → ltb 1000000 k ≡ t →
-        At? (cond t place.Outside (place.At (record { 0 = k + 1000000 }))) (λ c. (value_of c ≡ pos k) × (c.0 ≤ coordinate_last))
+        IfSome (cond t None (Some (record { 0 = k + 1000000 }))) (λ c. (value_of c ≡ pos k) × (c.0 ≤ coordinate_last))
     at true e = tt
     at false e = (sub-yes (k + 1000000) 1000000 (omega arith) ∙ ap pos (omega arith), omega (arith, ltb-false 1000000 k e))
-at_value (negsuc k) = at (ltb 999999 k) refl
+coordinate_range (negsuc k) = at (ltb 999999 k) refl
   where
     at : (t : Bool) → ltb 999999 k ≡ t →
-        At? (cond t place.Outside (place.At (record { 0 = 1000000 - suc k }))) (λ c. (value_of c ≡ negsuc k) × (c.0 ≤ coordinate_last))
+        IfSome (cond t None (Some (record { 0 = 1000000 - suc k }))) (λ c. (value_of c ≡ negsuc k) × (c.0 ≤ coordinate_last))
     at true e = tt
     at false e =
         (sub-no (1000000 - suc k) 1000000 (omega (arith, ltb-false 999999 k e)) ∙ ap negsuc (omega (arith, ltb-false 999999 k e)), omega arith)
 
 -- a number that has a coordinate is that coordinate's position
-pub value-coordinate : (n : ℤ) {c : Coordinate} → coordinate_of n ≡ place.At c → (value_of c ≡ n) × (c.0 ≤ coordinate_last)
-unfolding At?
-value-coordinate n e = subst (λ (p : Place). At? p (λ c. (value_of c ≡ n) × (c.0 ≤ coordinate_last))) e (at_value n)
+pub value-coordinate : (n : ℤ) {c : Coordinate} → coordinate_of n ≡ Some c → (value_of c ≡ n) × (c.0 ≤ coordinate_last)
+value-coordinate n e = rw e at (coordinate_range n)
+
+within_range : (low high : ℕ) (p : Option Coordinate) → IfSome (within low high p) (λ c. (low ≤ c.0) × (c.0 ≤ high) × (p ≡ Some c))
+unfolding within
+within_range low high None = tt
+within_range low high (Some c) = grind (arith, nat_tests)
 
 -- a coordinate read from low to high is from low to high
-pub within_in : (low high : ℕ) (p : Place) {c : Coordinate} → within low high p ≡ place.At c → (low ≤ c.0) × (c.0 ≤ high) × (p ≡ place.At c)
-unfolding At? within
-within_in low high p e = subst (λ (q : Place). At? q (λ c. (low ≤ c.0) × (c.0 ≤ high) × (p ≡ place.At c))) e (go p)
-  where
-    go : (p : Place) → At? (within low high p) (λ c. (low ≤ c.0) × (c.0 ≤ high) × (p ≡ place.At c))
-    go place.Outside = tt
-    go (place.At c) = at (leb low c.0 && leb c.0 high) refl
-      where
-        at : (t : Bool) → (leb low c.0 && leb c.0 high) ≡ t →
-            At? (cond t (place.At c) place.Outside) (λ d. (low ≤ d.0) × (d.0 ≤ high) × (place.At c ≡ place.At d))
-        at true b = let w = both (leb low c.0) (leb c.0 high) b in (leb-true _ _ w.0, leb-true _ _ w.1, refl)
-        at false b = tt
+pub within_in : (low high : ℕ) (p : Option Coordinate) {c : Coordinate} → within low high p ≡ Some c → (low ≤ c.0) × (c.0 ≤ high) × (p ≡ Some c)
+within_in low high p e = rw e at (within_range low high p)
 
 -- ---- the bounds of a range of positions
 leb-same : (a b c d : ℕ) → (a ≤ b → c ≤ d) → (b < a → d < c) → leb a b ≡ leb c d
@@ -181,17 +171,11 @@ module _ (c : Coordinate) (h : c.0 ≤ coordinate_last) where
   between-clamped a b = λ i. from-clamped a i && to-clamped b i
 
 -- ---- what a number or a position comes to, outside its range and within
-pub natural-out : {A : Type 0} (n : Natural) (f : ℕ → A) (x : A) {r : A} → n ≡ natural.Outside → r ≡ x → r ≡ on_natural n f x
-natural-out n f x e q = q ∙ simp e
+pub some-out : {A B : Type 0} (o : Option A) (f : A → B) (x : B) {r : B} → o ≡ None → r ≡ x → r ≡ on_some o f x
+some-out o f x e q = q ∙ simp e
 
-pub natural-take : {A : Type 0} (n : Natural) (f : ℕ → A) (x : A) {k : ℕ} {r : A} → n ≡ natural.In k → r ≡ f k → r ≡ on_natural n f x
-natural-take n f x e q = q ∙ simp e
-
-pub place_out : {A : Type 0} (p : Place) (f : Coordinate → A) (x : A) {r : A} → p ≡ place.Outside → r ≡ x → r ≡ on_place p f x
-place_out p f x e q = q ∙ simp e
-
-pub place-take : {A : Type 0} (p : Place) (f : Coordinate → A) (x : A) {c : Coordinate} {r : A} → p ≡ place.At c → r ≡ f c → r ≡ on_place p f x
-place-take p f x e q = q ∙ simp e
+pub some-take : {A B : Type 0} (o : Option A) (f : A → B) (x : B) {a : A} {r : B} → o ≡ Some a → r ≡ f a → r ≡ on_some o f x
+some-take o f x e q = q ∙ simp e
 
 -- ---- a number that the code reads back from its bits, and what a caller learns of f at a number n that it passed on
 abbrev pub back : ℤ → ℤ

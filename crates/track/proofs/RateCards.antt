@@ -1,5 +1,6 @@
 -- Slower tracks (02, 2.4), by examples and small laws: 2 in 5, 1 in q, q in q; what clears the remainder and what keeps it; what the call of a
 -- rate is refused.
+use Rattle.std.specs.Prelude.{Option, Some, None}
 use Prim.Native.Nat.{ℕ, suc, ◌+◌, ◌-◌, ◌*◌, ◌/◌, ◌%◌, ◌≤◌, ◌<◌}
 use mathlib.Core.Path.{◌≡◌, refl, ◌∙◌, ap}
 use mathlib.Core.Bool.{Bool, true, false, cond}
@@ -9,18 +10,13 @@ use lib.Dec.{leb, ltb, eqb}
 use lib.IntN.{ℤ, pos, negsuc}
 use borrow.Author.Tests.{eq-eqb, ne_eqb, le-leb, lt-leb, le-ltb, ltb-false}
 use Rattle.track.specs.declared.Track.{Track}
-use Rattle.track.specs.declared.number.Natural.{Natural}
-use Rattle.track.specs.declared.number.Natural.TheVariants as natural
-use Rattle.track.specs.declared.number.Place.{Place}
-use Rattle.track.specs.declared.number.Place.TheVariants as place
+use Rattle.track.specs.declared.Coordinate.{Coordinate}
 use Rattle.track.specs.declared.setup.Change.TheVariants as change
-use Rattle.track.specs.declared.setup.Changed.{Changed}
-use Rattle.track.specs.declared.setup.Answer.{Answer}
-use Rattle.track.specs.declared.setup.Answer.TheVariants.{Accepted, Refused}
+use Rattle.track.specs.Refusal.{Answer, Accepted, Refused}
 use Rattle.track.specs.Rule.{STOPPED, DUE, rate_most, Valid, moved, paced, rewound, stopped, entered}
-use Rattle.track.specs.Number.{natural_of, coordinate_of, within, on_natural, on_place}
+use Rattle.track.specs.Number.{natural_of, coordinate_of, within, on_some}
 use Rattle.track.specs.Leap.{added, moves, remainder_left, steps_in, remainder_after, leap, ticks_before}
-use Rattle.track.specs.Setup.{refused, accepted, turned, closes, turned_to, jump_to, rate_set, set_by, permits, changed_by}
+use Rattle.track.specs.Setup.{Changed, refused, accepted, turned, closes, turned_to, jump_to, rate_set, set_by, permits, changed_by}
 use Rattle.track.proofs.Tests.{cond_cases}
 use Rattle.track.proofs.Numbers.{natural-in, natural-of}
 use Rattle.track.proofs.Leaps.{leap-moves}
@@ -194,10 +190,10 @@ module _ (t : Track) where
   unfolding jump_to
   jump-keeps p = go (within t.start.0 t.end.0 (coordinate_of p))
     where
-      go : (r : Place) →
-          (on_place r (λ c. accepted (moved t t.mode c.0 t.passes.0 DUE)) (refused 3 t)).track.remainder ≡ t.remainder
-      go (place.At c) = refl
-      go place.Outside = refl
+      go : (r : Option Coordinate) →
+          (on_some r (λ c. accepted (moved t t.mode c.0 t.passes.0 DUE)) (refused 3 t)).track.remainder ≡ t.remainder
+      go (Some c) = refl
+      go None = refl
 
   pub turned-keeps : (k : ℕ) → (t.mode ≡ STOPPED → ⊥) → (turned_to t k).remainder ≡ t.remainder
   unfolding turned_to
@@ -242,14 +238,14 @@ module _ (t : Track) where
   unfolding rate_set
   rate-cases P p q out in-range = go (natural_of p 1 rate_most) (natural_of q 1 rate_most) refl refl
     where
-      go : (m n : Natural) → natural_of p 1 rate_most ≡ m → natural_of q 1 rate_most ≡ n →
-          P (on_natural m (λ a. on_natural n (λ b. cond (ltb b a) (refused 11 t) (accepted (paced t a b t.remainder))) (refused 11 t)) (refused 11 t))
-      go (natural.In a) (natural.In b) e f =
+      go : (m n : Option ℕ) → natural_of p 1 rate_most ≡ m → natural_of q 1 rate_most ≡ n →
+          P (on_some m (λ a. on_some n (λ b. cond (ltb b a) (refused 11 t) (accepted (paced t a b t.remainder))) (refused 11 t)) (refused 11 t))
+      go (Some a) (Some b) e f =
           let x = natural-in p 1 rate_most e in
           let y = natural-in q 1 rate_most f in
           cond_cases P (ltb b a) (λ _. out) (λ h. in-range a b x.0 y.0 x.1 (ltb-false b a h) y.2)
-      go (natural.In a) natural.Outside e f = out
-      go natural.Outside n e f = out
+      go (Some a) None e f = out
+      go None n e f = out
 
   -- it does not rewind, accepted or not
   pub rate-stands : (p q : ℤ) → Standing t (rate_set t p q).track
@@ -298,9 +294,9 @@ module _ (t : Track) where
     unfolding rate_set natural_of
     rate-of-negative p k = rate-stopped p (negsuc k) s ∙ go (natural_of p 1 rate_most)
       where
-        go : (m : Natural) → on_natural m (λ a. refused 11 t) (refused 11 t) ≡ refused 11 t
-        go (natural.In a) = refl
-        go natural.Outside = refl
+        go : (m : Option ℕ) → on_some m (λ a. refused 11 t) (refused 11 t) ≡ refused 11 t
+        go (Some a) = refl
+        go None = refl
 
   -- its range is never told as 3, in any mode
   pub never-three : (p q : ℤ) → (changed_by t (change.Rate p q)).answer ≡ Refused 3 → ⊥

@@ -1,4 +1,5 @@
 -- What the set-up changes keep.
+use Rattle.std.specs.Prelude.{Option, Some, None}
 use Prim.Native.Nat.{ℕ, zero, suc, ◌+◌, ◌*◌, ◌≤◌, ◌<◌}
 use mathlib.Core.Path.{◌≡◌, refl, ◌∙◌}
 use mathlib.Core.List.{List, [], ◌∷◌}
@@ -11,16 +12,11 @@ use lib.Dec.{eqb, ltb}
 use borrow.Author.Tests.{eqb-true, eqb-false, ltb-true, ltb-false}
 use Rattle.track.specs.declared.Track.{Track}
 use Rattle.track.specs.declared.Coordinate.{Coordinate}
-use Rattle.track.specs.declared.number.Natural.{Natural}
-use Rattle.track.specs.declared.number.Natural.TheVariants as natural
-use Rattle.track.specs.declared.number.Place.{Place}
-use Rattle.track.specs.declared.number.Place.TheVariants as place
 use Rattle.track.specs.declared.setup.Change.{Change}
 use Rattle.track.specs.declared.setup.Change.TheVariants as change
-use Rattle.track.specs.declared.setup.Changed.{Changed}
 use Rattle.track.specs.Rule.{STOPPED, BACKWARD, REPEATING, DUE, loops_most, rate_most, cell_count, cell_most, events_test, Ordered, Valid, Cells, new_track, moved, rewound}
-use Rattle.track.specs.Number.{natural_of, coordinate_of, within, on_natural, on_place}
-use Rattle.track.specs.Setup.{refused, set_to, turned, closes, turned_to, start_set, end_set, loops_set, repeat_set, direction_set, action_set, jump_to, rate_set, set_by, permits, changed_by}
+use Rattle.track.specs.Number.{natural_of, coordinate_of, within, on_some}
+use Rattle.track.specs.Setup.{Changed, refused, set_to, turned, closes, turned_to, start_set, end_set, loops_set, repeat_set, direction_set, action_set, jump_to, rate_set, set_by, permits, changed_by}
 use Rattle.track.proofs.Tests.{cond_cases}
 use Rattle.track.proofs.Checks.{events-of}
 use Rattle.track.proofs.Follows.{SameFollower, same-follower}
@@ -64,21 +60,20 @@ module _ (t : Track) (v : Valid t) where
   same = record { valid = v; min = refl; max = refl; mode = refl; passes = omega arith; follower = same-follower t }
 
 -- what holds of the changed track holds where the number or position is in its range
-on-natural : (P : Track → Type 0) (t : Track) (n : ℤ) (least most : ℕ) (f : ℕ → Changed) (other : ℕ) → P t →
-    ((k : ℕ) → least ≤ k → k ≤ most → P (f k).track) → P (on_natural (natural_of n least most) f (refused other t)).track
-on-natural P t n least most f other kept does = go (natural_of n least most) refl
-  where
-    go : (r : Natural) → natural_of n least most ≡ r → P (on_natural r f (refused other t)).track
-    go (natural.In k) e = let b = natural-in n least most e in does k b.1 b.2
-    go natural.Outside e = kept
+on-read : {A : Type 0} (P : Track → Type 0) (t : Track) (o : Option A) (f : A → Changed) (other : ℕ) → P t →
+    ((a : A) → o ≡ Some a → P (f a).track) → P (on_some o f (refused other t)).track
+on-read P t (Some a) f other kept does = does a refl
+on-read P t None f other kept does = kept
 
-on-place : (P : Track → Type 0) (t : Track) (low high : ℕ) (p : Place) (f : Coordinate → Changed) → P t →
-    ((c : Coordinate) → low ≤ c.0 → c.0 ≤ high → P (f c).track) → P (on_place (within low high p) f (refused 3 t)).track
-on-place P t low high p f kept does = go (within low high p) refl
-  where
-    go : (r : Place) → within low high p ≡ r → P (on_place r f (refused 3 t)).track
-    go (place.At c) e = let b = within_in low high p e in does c b.0 b.1
-    go place.Outside e = kept
+on-natural : (P : Track → Type 0) (t : Track) (n : ℤ) (least most : ℕ) (f : ℕ → Changed) (other : ℕ) → P t →
+    ((k : ℕ) → least ≤ k → k ≤ most → P (f k).track) → P (on_some (natural_of n least most) f (refused other t)).track
+on-natural P t n least most f other kept does =
+    on-read P t (natural_of n least most) f other kept (λ k e. let b = natural-in n least most e in does k b.1 b.2)
+
+on-place : (P : Track → Type 0) (t : Track) (low high : ℕ) (p : Option Coordinate) (f : Coordinate → Changed) → P t →
+    ((c : Coordinate) → low ≤ c.0 → c.0 ≤ high → P (f c).track) → P (on_some (within low high p) f (refused 3 t)).track
+on-place P t low high p f kept does =
+    on-read P t (within low high p) f 3 kept (λ c e. let b = within_in low high p e in does c b.0 b.1)
 
 set-event : (l : List ℕ) (i e : ℕ) → e ≤ cell_most → ((k : ℕ) → get_or l k 0 ≤ cell_most) → (k : ℕ) → get_or (set l i e) k 0 ≤ cell_most
 set-event [] i e he h k = h k

@@ -2,7 +2,7 @@
 use Prim.Native.Nat.{ℕ, zero, suc, ◌+◌, ◌-◌, ◌/◌, ◌%◌, ◌≤◌, ◌<◌, max}
 use mathlib.Core.Path.{◌≡◌, refl, sym, ◌∙◌, ap, ap₂}
 use mathlib.Core.Bool.{Bool, true, false, not, ◌&&◌}
-use native.Mathlib.Nat.{add-zero, add-mod_right, div-lt_iff_lt-mul, mul-le-mul_left, mod-lt, mod-eq_of_lt, div-eq_of_lt}
+use native.Mathlib.Nat.{add-zero, add-mod_right, div-le_self, div-lt_iff_lt-mul, mul-le-mul_left, mod-lt, mod-eq_of_lt, div-eq_of_lt}
 use native.Mathlib.Omega.{arith}
 use lib.Dec.{eqb, leb}
 use borrow.Author.Tests.{eqb-true, eq-eqb, lt-leb, le-leb, leb-false}
@@ -203,3 +203,8 @@ module _ (t : Track) (v : Valid t) where
       go : (r : Bool) → repeats t ≡ r → running t < clock_end → (repeats t ≡ false) × (suc (running t) ≡ stop_step t)
       go true er h = absurd (omega (arith, simp er at h))
       go false er h = (er, simp er (omega (arith, simp er at h, stop-later t v)))
+
+-- what the check may use of the step that stops a track, and of many steps
+pub ruleset stopping = (stop-later)
+
+pub ruleset striding = (next_small, stride-zero, div-le_self)

@@ -2,9 +2,8 @@
 use Rattle.std.specs.Prelude.{ℕ, ◌≤◌, ◌≡◌, pos}
 use Rattle.track.specs.declared.Track.{Track}
 use Rattle.track.specs.declared.setup.Change.TheVariants as change
-use Rattle.track.specs.declared.setup.Changed.{Changed}
 use Rattle.track.specs.Rule.{PLAYING, PAUSED, BACKWARD, VISITED, Valid, far, entered}
-use Rattle.track.specs.Setup.{turned, changed_by}
+use Rattle.track.specs.Setup.{Changed, turned, changed_by}
 
 -- what the direction call gives for the direction k, and the track resumed behind it
 abbrev pub directed : Track → ℕ → Changed

@@ -46,53 +46,11 @@ judged t m =
 
 -- the track with another band
 abbrev pub banded : Track → ℕ → Track
-banded t band =
-    record {
-      min = t.min;
-      max = t.max;
-      start = t.start;
-      end = t.end;
-      position = t.position;
-      passes = t.passes;
-      loops = t.loops;
-      mode = t.mode;
-      direction = t.direction;
-      repeat = t.repeat;
-      due = t.due;
-      actions = t.actions;
-      master = t.master;
-      band = band;
-      thresholds = t.thresholds;
-      events = t.events;
-      steps = t.steps;
-      ticks = t.ticks;
-      remainder = t.remainder;
-    }
+banded t band = record t { band = band }
 
 -- "Setting it makes the band none": the track with another master, other thresholds and their events
 abbrev pub following : Track → ℕ → List ℕ → List ℕ → Track
-following t master thresholds events =
-    record {
-      min = t.min;
-      max = t.max;
-      start = t.start;
-      end = t.end;
-      position = t.position;
-      passes = t.passes;
-      loops = t.loops;
-      mode = t.mode;
-      direction = t.direction;
-      repeat = t.repeat;
-      due = t.due;
-      actions = t.actions;
-      master = master;
-      band = 0;
-      thresholds = thresholds;
-      events = events;
-      steps = t.steps;
-      ticks = t.ticks;
-      remainder = t.remainder;
-    }
+following t master thresholds events = record t { master = master; band = 0; thresholds = thresholds; events = events }
 
 -- ---- the ranges and rules of a follower, for a lent track
 

@@ -108,57 +108,15 @@ far t = cond (backward t) t.start.0 t.end.0
 
 -- the track in another mode, at another position, with other passes, due or visited
 abbrev pub moved : Track → ℕ → ℕ → ℕ → ℕ → Track
-moved t mode position passes due =
-    record {
-      min = t.min;
-      max = t.max;
-      start = t.start;
-      end = t.end;
-      position = record { 0 = position };
-      passes = record { 0 = passes };
-      loops = t.loops;
-      mode = mode;
-      direction = t.direction;
-      repeat = t.repeat;
-      due = due;
-      actions = t.actions;
-      master = t.master;
-      band = t.band;
-      thresholds = t.thresholds;
-      events = t.events;
-      steps = t.steps;
-      ticks = t.ticks;
-      remainder = t.remainder;
-    }
+moved t mode position passes due = record t { mode = mode; position = record { 0 = position }; passes = record { 0 = passes }; due = due }
 
 -- the track with another rate, of so many steps in so many ticks, and another remainder
 abbrev pub paced : Track → ℕ → ℕ → ℕ → Track
-paced t steps ticks remainder =
-    record {
-      min = t.min;
-      max = t.max;
-      start = t.start;
-      end = t.end;
-      position = t.position;
-      passes = t.passes;
-      loops = t.loops;
-      mode = t.mode;
-      direction = t.direction;
-      repeat = t.repeat;
-      due = t.due;
-      actions = t.actions;
-      master = t.master;
-      band = t.band;
-      thresholds = t.thresholds;
-      events = t.events;
-      steps = steps;
-      ticks = ticks;
-      remainder = remainder;
-    }
+paced t steps ticks remainder = record t { steps = steps; ticks = ticks; remainder = remainder }
 
 -- the track with another remainder
 abbrev pub with_remainder : Track → ℕ → Track
-with_remainder t remainder = paced t t.steps t.ticks remainder
+with_remainder t remainder = record t { remainder = remainder }
 
 -- rewound: position home, due set, passes 0; "Rewinding sets the remainder to 0" (02, 2.4)
 abbrev pub rewound : Track → Track

@@ -4,119 +4,61 @@ ghost use Rattle.track.specs.Rule.{ordered_test, cells_test, rated_test, valid_t
 
 use crate::{Coordinate, Ticks, Track};
 
-// The order of a track's coordinates.
-fn ordered(min: u32, max: u32, start: u32, end: u32, position: u32) -> bool
-    ensures { result ≡ ordered_test min max start end position }
-{
-    if max <= min {
-        return false;
-    }
-    if Coordinate::LAST < max {
-        return false;
-    }
-    if start < min {
-        return false;
-    }
-    if end <= start {
-        return false;
-    }
-    if max < end {
-        return false;
-    }
-    if position < start {
-        return false;
-    }
-    if end < position {
-        return false;
-    }
-    true
-}
-
 // The rules of the action cells: none between equal modes. That they are sixteen bytes their type says.
+#[tactic(auto, unfolding(crate::specs::Rule::cells_test, crate::specs::Rule::every))]
 fn cells_kept(cells: [u8; Track::CELLS]) -> bool
     ensures { result ≡ cells_test cells }
 {
-    if cells[0] != 0 {
-        return false;
-    }
-    if cells[5] != 0 {
-        return false;
-    }
-    if cells[10] != 0 {
-        return false;
-    }
-    if cells[15] != 0 {
-        return false;
-    }
-    true
-}
-
-// The rules of a rate and its remainder.
-fn rated(steps: u16, ticks: u16, remainder: u32, mode: u8) -> bool
-    ensures { result ≡ rated_test steps ticks remainder mode }
-{
-    if steps == 0 {
-        return false;
-    }
-    if ticks < steps {
-        return false;
-    }
-    if Track::RATE < ticks as u32 {
-        return false;
-    }
-    if ticks as u32 <= remainder {
-        return false;
-    }
-    if mode != Track::STOPPED {
-        return true;
-    }
-    remainder == 0
+    cells[0] == 0 && cells[5] == 0 && cells[10] == 0 && cells[15] == 0
 }
 
 impl Track {
+    // The order of the coordinates.
+    #[tactic(auto, unfolding(crate::specs::Rule::ordered_test, crate::specs::Rule::every))]
+    fn ordered(self) -> bool
+        ensures { result ≡ ordered_test self.min.0 self.max.0 self.start.0 self.end.0 self.position.0 }
+    {
+        self.min < self.max
+            && self.max.0 <= Coordinate::LAST
+            && self.min <= self.start
+            && self.start < self.end
+            && self.end <= self.max
+            && self.start <= self.position
+            && self.position <= self.end
+    }
+
+    // The rules of the rate and its remainder.
+    #[tactic(auto, unfolding(crate::specs::Rule::rated_test, crate::specs::Rule::every))]
+    fn rated(self) -> bool
+        ensures { result ≡ rated_test self.steps self.ticks self.remainder self.mode }
+    {
+        self.steps != 0
+            && self.steps <= self.ticks
+            && self.ticks as u32 <= Track::RATE
+            && self.remainder < self.ticks as u32
+            && (self.mode != Track::STOPPED || self.remainder == 0)
+    }
+
     // Every range and rule of a track by itself.
-    #[tactic(auto, using(crate::proofs::Checks::flags))]
+    #[tactic(auto, unfolding(crate::specs::Rule::valid_test, crate::specs::Rule::every))]
     pub fn valid(self) -> bool
         ensures { result ≡ valid_test self }
     {
-        let cells = self.actions;
-        if !ordered(
-            self.min.0,
-            self.max.0,
-            self.start.0,
-            self.end.0,
-            self.position.0,
-        ) {
-            return false;
-        }
-        if self.loops == 0 {
-            return false;
-        }
-        if self.mode > Track::WAITING {
-            return false;
-        }
-        if self.direction > Track::BACKWARD {
-            return false;
-        }
-        if self.repeat > Track::REPEATING {
-            return false;
-        }
-        if self.due > Track::DUE {
-            return false;
-        }
-        if !cells_kept(cells) {
-            return false;
-        }
-        rated(self.steps, self.ticks, self.remainder, self.mode)
+        self.ordered()
+            && self.loops != 0
+            && self.mode <= Track::WAITING
+            && self.direction <= Track::BACKWARD
+            && self.repeat <= Track::REPEATING
+            && self.due <= Track::DUE
+            && cells_kept(self.actions)
+            && self.rated()
     }
 
     // Valid, and the passes are not above the clock.
+    #[tactic(auto, unfolding(crate::specs::Rule::sound_test))]
     pub fn sound(self, clock: Ticks) -> bool
         ensures { result ≡ sound_test self clock }
     {
-        if clock.0 < self.passes.0 {
-            return false;
-        }
-        self.valid()
+        self.valid() && self.passes.0 <= clock.0
     }
 }

@@ -3,32 +3,35 @@
 #![tactic(auto)]
 
 ghost use Rattle.std.specs.Prelude.{◌≡◌, ◌≤◌};
-ghost use Rattle.track.specs.Rule.{new_track, home, far, moved, rewound, stopped, entered, action_cell};
+ghost use Rattle.track.specs.Rule.{new_track, home, far, rewound, stopped, entered, action_cell};
 
 mod check;
 pub mod follow;
 pub mod grid;
 pub mod number;
 mod rate;
+pub mod refusal;
 pub mod setup;
 mod stride;
 mod walk;
 
 // A position of 01, PREMO's coordinate C, kept as position + 1,000,000 so that it has no sign inside.
 #[repr(C)]
-#[derive(Clone, Copy)]
+#[derive(Clone, Copy, PartialEq, Eq, PartialOrd, Ord)]
 pub struct Coordinate(pub u32);
 
 // Ticks of the board's clock, PREMO's Time.
 #[repr(C)]
-#[derive(Clone, Copy)]
+#[derive(Clone, Copy, PartialEq, Eq, PartialOrd, Ord)]
 pub struct Ticks(pub u32);
 
 // Arrivals at the far position, PREMO's visit number.
 #[repr(C)]
-#[derive(Clone, Copy)]
+#[derive(Clone, Copy, PartialEq, Eq, PartialOrd, Ord)]
 pub struct Passes(pub u32);
 
+// C lends it with any bytes and by this layout. So its rules stand in `Valid`, a clause of each method that needs them, and in no type;
+// a mode, a direction or a flag is a byte with names and no enum; and thresholds and events are two rows, not one of pairs.
 #[repr(C)]
 #[derive(Clone, Copy)]
 pub struct Track {
@@ -42,7 +45,7 @@ pub struct Track {
     pub mode: u8,
     // 0 forward, 1 backward.
     pub direction: u8,
-    // 0 or 1; a byte, like `due`, since C can lend any value.
+    // 0 or 1.
     pub repeat: u8,
     // The position is not yet visited.
     pub due: u8,
@@ -113,10 +116,11 @@ impl Track {
     pub const RATE: u32 = 1000;
 
     // A new track: start = min, end = max, forward, repeat off, loops 1, all actions 0, STOPPED, rewound, no master, 1 in 1.
+    #[tactic(auto, unfolding(crate::specs::Rule::new_track))]
     pub fn new(min: Coordinate, max: Coordinate) -> Self
         ensures { result ≡ new_track min max }
     {
-        Track {
+        Self {
             min,
             max,
             start: min,
@@ -124,15 +128,15 @@ impl Track {
             position: min,
             passes: Passes(0),
             loops: 1,
-            mode: Track::STOPPED,
-            direction: Track::FORWARD,
+            mode: Self::STOPPED,
+            direction: Self::FORWARD,
             repeat: 0,
-            due: Track::DUE,
-            actions: [0u8; Track::CELLS],
+            due: Self::DUE,
+            actions: [0u8; Self::CELLS],
             master: 0,
             band: 0,
-            thresholds: [0u32; Track::THRESHOLDS],
-            events: [0u16; Track::THRESHOLDS],
+            thresholds: [0u32; Self::THRESHOLDS],
+            events: [0u16; Self::THRESHOLDS],
             steps: 1,
             ticks: 1,
             remainder: 0,
@@ -144,9 +148,9 @@ impl Track {
         ensures { result.0 ≡ home self }
     {
         if self.direction == Track::BACKWARD {
-            Coordinate(self.end.0)
+            self.end
         } else {
-            Coordinate(self.start.0)
+            self.start
         }
     }
 
@@ -155,49 +159,44 @@ impl Track {
         ensures { result.0 ≡ far self }
     {
         if self.direction == Track::BACKWARD {
-            Coordinate(self.start.0)
+            self.start
         } else {
-            Coordinate(self.end.0)
+            self.end
         }
-    }
-
-    // The track in another mode, at another position, with other passes, due or visited.
-    fn moved(mut self, mode: u8, position: Coordinate, passes: Passes, due: u8) -> Track
-        ensures { result ≡ moved self mode position.0 passes.0 due }
-    {
-        self.mode = mode;
-        self.position = position;
-        self.passes = passes;
-        self.due = due;
-        self
     }
 
     // Rewound: position home, due set, passes 0, remainder 0.
     fn rewound(self) -> Track
         ensures { result ≡ rewound self }
     {
-        let mut next = self.moved(self.mode, self.home(), Passes(0), Track::DUE);
-        next.remainder = 0;
-        next
+        Track {
+            position: self.home(),
+            passes: Passes(0),
+            due: Track::DUE,
+            remainder: 0,
+            ..self
+        }
     }
 
     // STOPPED and rewound.
     fn stopped(self) -> Track
         ensures { result ≡ stopped self }
     {
-        let mut next = self.rewound();
-        next.mode = Track::STOPPED;
-        next
+        Track {
+            mode: Track::STOPPED,
+            ..self.rewound()
+        }
     }
 
     // The track as a call or a command that goes to this mode leaves it: STOPPED rewinds.
+    #[tactic(auto, unfolding(crate::specs::Rule::entered))]
     pub fn entered(self, mode: u8) -> Track
         ensures { result ≡ entered self mode }
     {
         if mode == Track::STOPPED {
             return self.stopped();
         }
-        self.moved(mode, self.position, self.passes, self.due)
+        Track { mode, ..self }
     }
 
     // The event of a change of mode, 0 for none.
@@ -205,8 +204,6 @@ impl Track {
         requires { (from ≤ 3) × (to ≤ 3) }
         ensures { result ≡ action_cell self from to }
     {
-        let cells = self.actions;
-        let at = (from * 4 + to) as usize;
-        cells[at]
+        self.actions[(from * 4 + to) as usize]
     }
 }

@@ -1,112 +1,73 @@
 // The numbers of a call, from i64 to what a track keeps: only here are a call's signed numbers worked on.
-ghost use Rattle.std.specs.Prelude.{◌≡◌};
+ghost use Rattle.std.specs.Prelude.{◌≡◌, ok_or};
 ghost use Rattle.track.specs.Number.{natural_of, capped_of, coordinate_of, within, value_of, clamped_of};
+ghost use Rattle.track.specs.declared.refusal.Refusal.TheVariants.{Value};
 
 use crate::Coordinate;
-
-// A number of a call that may lie outside its range.
-#[derive(Clone, Copy)]
-pub enum Natural {
-    In(u32),
-    Outside,
-}
-
-// A position of a call that may lie outside its range.
-#[derive(Clone, Copy)]
-pub enum Place {
-    At(Coordinate),
-    Outside,
-}
+use crate::refusal::Refusal;
 
 // The number, if it is from least to most.
-pub fn in_range(n: i64, least: u32, most: u32) -> Natural
+#[tactic(auto, unfolding(crate::specs::Number::natural_of))]
+pub fn in_range(n: i64, least: u32, most: u32) -> Option<u32>
     ensures { result ≡ natural_of n least most }
 {
-    if n < 0 {
-        return Natural::Outside;
-    }
-    let m = n as u64;
-    let high = most as u64;
-    if high < m {
-        return Natural::Outside;
-    }
-    let k = m as u32;
-    if k < least {
-        return Natural::Outside;
-    }
-    Natural::In(k)
+    let k = u32::try_from(n).ok()?;
+    (least..=most).contains(&k).then_some(k)
 }
 
-// The number, brought down to the most if it is above; outside if it is negative.
-pub fn capped(n: i64, most: u32) -> Natural
+// The number, brought down to the most if it is above; none if it is negative.
+#[tactic(auto, unfolding(crate::specs::Number::capped_of))]
+pub fn capped(n: i64, most: u32) -> Option<u32>
     ensures { result ≡ capped_of n most }
 {
-    if n < 0 {
-        return Natural::Outside;
-    }
-    let m = n as u64;
-    let high = most as u64;
-    if high < m {
-        return Natural::In(most);
-    }
-    let k = m as u32;
-    Natural::In(k)
+    let k = u64::try_from(n).ok()?;
+    Some(k.min(most as u64) as u32)
 }
 
 // A bound of a range of positions, brought to just beside the least or the greatest position if it
 // lies beyond, and counted from -1,000,001.
+#[tactic(auto, unfolding(crate::specs::Number::clamped_of))]
 pub fn clamped(n: i64) -> u32
     ensures { result ≡ clamped_of n }
 {
-    if n < -1000000 {
-        return 0;
+    (n.clamp(-1000001, 1000001) + 1000001) as u32
+}
+
+// The coordinate of a position, if it is from -1,000,000 to 1,000,000.
+impl TryFrom<i64> for Coordinate {
+    type Error = Refusal;
+
+    ghost try_from_gives = { λ n r. r ≡ ok_or (coordinate_of n) Value };
+
+    #[tactic(auto, unfolding(crate::specs::Number::coordinate_of))]
+    fn try_from(n: i64) -> Result<Coordinate, Refusal> {
+        if !(-1000000..=1000000).contains(&n) {
+            return Err(Refusal::Value);
+        }
+        Ok(Coordinate((n + Coordinate::BIAS) as u32))
     }
-    if 1000000 < n {
-        return 2000002;
+}
+
+// The position of a coordinate.
+impl From<Coordinate> for i64 {
+    ghost from_gives = { λ c n. n ≡ value_of c };
+
+    #[tactic(auto, unfolding(crate::specs::Number::value_of))]
+    fn from(c: Coordinate) -> i64 {
+        c.0 as i64 - Coordinate::BIAS
     }
-    let s = n + 1000001;
-    s as u32
 }
 
 impl Coordinate {
-    // The coordinate of a position, if it is from -1,000,000 to 1,000,000.
-    pub fn of(n: i64) -> Place
-        ensures { result ≡ coordinate_of n }
-    {
-        if n < -1000000 {
-            return Place::Outside;
-        }
-        if 1000000 < n {
-            return Place::Outside;
-        }
-        let s = n + Coordinate::BIAS;
-        let k = s as u32;
-        Place::At(Coordinate(k))
-    }
-
     // The coordinate of a position, if it is from low to high.
-    pub fn between(n: i64, low: Coordinate, high: Coordinate) -> Place
-        ensures { result ≡ within low.0 high.0 (coordinate_of n) }
+    #[tactic(auto, unfolding(crate::specs::Number::within))]
+    pub fn between(n: i64, low: Coordinate, high: Coordinate) -> Result<Coordinate, Refusal>
+        ensures { result ≡ ok_or (within low.0 high.0 (coordinate_of n)) Value }
     {
-        let p = Coordinate::of(n);
-        let Place::At(c) = p else {
-            return Place::Outside;
-        };
-        if c.0 < low.0 {
-            return Place::Outside;
+        let c = Coordinate::try_from(n)?;
+        if !(low..=high).contains(&c) {
+            return Err(Refusal::Value);
         }
-        if high.0 < c.0 {
-            return Place::Outside;
-        }
-        Place::At(c)
-    }
-
-    // The position of a coordinate.
-    pub fn value(self) -> i64
-        ensures { result ≡ value_of self }
-    {
-        let k = self.0;
-        let s = k as i64;
-        s - Coordinate::BIAS
+        Ok(c)
     }
 }

@@ -40,6 +40,7 @@ impl Track {
     }
 
     // How far from home the next step arrives.
+    #[tactic(auto, using(crate::proofs::Arrivals::arriving), unfolding(crate::specs::Stride::next))]
     pub fn next(self) -> u32
         requires { Valid self }
         ensures { result ≡ next self }
@@ -48,6 +49,7 @@ impl Track {
     }
 
     // The track after so many steps, none of which stops it or makes it wait.
+    #[tactic(auto, using(crate::proofs::Strides::striding), unfolding(crate::specs::Stride::stride))]
     pub(crate) fn stride(self, steps: u32) -> Track
         requires valid { Valid self }
         requires passes_le_clock_end { self.passes.0 ≤ clock_end }
@@ -59,28 +61,27 @@ impl Track {
         }
         let span = self.span();
         let next = self.next();
-        let l = self.place((next + (steps - 1)) % span);
-        let passes = Passes(self.passes.0 + (next + steps) / span);
-        self.moved(self.mode, l, passes, Track::VISITED)
+        let position = self.place((next + (steps - 1)) % span);
+        Track {
+            position,
+            passes: Passes(self.passes.0 + (next + steps) / span),
+            due: Track::VISITED,
+            ..self
+        }
     }
 
     // The number of the step, counted from 1, that stops a track with repeat off.
+    #[tactic(auto, using(crate::proofs::Arrivals::next_small), unfolding(crate::specs::Stride::stop_step))]
     fn stop_step(self) -> u64
         requires { Valid self }
         ensures { result ≡ stop_step self }
     {
-        let span = self.span() as u64;
-        let next = self.next() as u64;
-        let loops = self.loops as u32;
-        let passes = self.passes.0;
-        if passes < loops {
-            (loops - passes) as u64 * span - next
-        } else {
-            span - next
-        }
+        let left = (self.loops as u32).saturating_sub(self.passes.0).max(1);
+        left as u64 * self.span() as u64 - self.next() as u64
     }
 
     // The steps before the one that stops the track, at most the clock's end.
+    #[tactic(auto, using(crate::proofs::Strides::stopping), unfolding(crate::specs::Stride::running))]
     pub fn running(self) -> u32
         requires { Valid self }
         ensures { result ≡ running self }
@@ -88,14 +89,11 @@ impl Track {
         if self.repeat == Track::REPEATING {
             return Ticks::END;
         }
-        let before = self.stop_step() - 1;
-        if (Ticks::END as u64) < before {
-            return Ticks::END;
-        }
-        before as u32
+        (self.stop_step() - 1).min(Ticks::END as u64) as u32
     }
 
     // The steps before the first that reaches the location l of the span.
+    #[tactic(auto, using(crate::proofs::Arrivals::next_small), unfolding(crate::specs::Stride::steps_to))]
     pub fn steps_to(self, l: Coordinate) -> u32
         requires valid { Valid self }
         requires start_le_l { (self.start.0 ≤ l.0) × (l.0 ≤ self.end.0) }

@@ -1,9 +1,9 @@
 -- The laws of the tick loop: what is left to do from where it stands is what was to do at the start.
+use Rattle.std.specs.Prelude.{Option, Some, None}
 use Prim.Native.Nat.{ℕ, zero, suc, ◌+◌, ◌-◌, ◌*◌, ◌≤◌, ◌<◌}
 use mathlib.Core.Path.{◌≡◌, refl, sym, ◌∙◌, ap, subst}
 use mathlib.Core.Bool.{true, false, ◌&&◌}
 use mathlib.Core.List.{List, [], ◌∷◌}
-use mathlib.Core.Option.{Option, none, some}
 use native.Mathlib.Nat.{add-zero, zero-add, mul_comm}
 use native.Mathlib.Omega.{arith}
 use lib.Dec.{leb}
@@ -15,8 +15,6 @@ use Rattle.track.specs.Rule.{clock_end}
 use Rattle.track.proofs.Tests.{both}
 use Rattle.board.specs.declared.Board.{Board}
 use lib.IntN.{ℤ}
-use Rattle.track.specs.declared.number.Natural.{Natural}
-use Rattle.track.specs.declared.number.Natural.TheVariants as natural
 use Rattle.track.specs.Number.{natural_of}
 use Rattle.board.specs.Setup.{board_with}
 use Rattle.board.specs.declared.call.Call.TheVariants as call
@@ -32,7 +30,7 @@ use Rattle.board.specs.Steady.{SteadyFor}
 use Rattle.board.specs.Quiet.{QuietFor, master_of, Leapable, leap_tracks, leap_into}
 use Rattle.board.specs.Cut.{Ran, Did, ticks, counted, sorted}
 use Rattle.board.specs.Replay.{World, w-halt, w-step, w-bar, perform}
-use Rattle.board.specs.Call.{Reply, refused, Stop, ends, fills, gridstep, halt_of, bar_of, barred, says_of, makes_of, most, taken?, run_count, advance_by, does, Gives, world, stopped_by, advanced_said}
+use Rattle.board.specs.Call.{Reply, refused, Stop, ends, fills, gridstep, halt_of, bar_of, barred, says_of, makes_of, most, run_count, advance_by, does, Gives, world, stopped_by, advanced_said}
 use Rattle.board.specs.Advance.{Ended, board_left}
 use Rattle.board.proofs.replay.Cuts.{ticks-on, advance-in, advance-out, later, later-on, later-off, later-done, later-leap}
 use Rattle.board.proofs.replay.Replays.{sets-write}
@@ -99,15 +97,15 @@ module _ (b : Board) (log : List ℕ) (ts : List Track) (clock held : ℕ) where
   abbrev pub stage_of : Stage
   stage_of = tick_from (keys_of b.points) (infos_of b.points) (clock + 1) b.present ts
 
-  pub halt-ends : clock_end ≤ clock → halt here ≡ some ends
+  pub halt-ends : clock_end ≤ clock → halt here ≡ Some ends
   unfolding halt_of
   halt-ends h = simp (le-leb clock_end clock h)
 
-  pub halt-fills : clock < clock_end → capacity (length log) < held + length stage_of.records → halt here ≡ some fills
+  pub halt-fills : clock < clock_end → capacity (length log) < held + length stage_of.records → halt here ≡ Some fills
   unfolding halt_of
   halt-fills h l = simp (lt-leb clock_end clock h, lt-leb (held + length stage_of.records) (capacity (length log)) l)
 
-  pub halt-none : clock < clock_end → held + length stage_of.records ≤ capacity (length log) → halt here ≡ none
+  pub halt-none : clock < clock_end → held + length stage_of.records ≤ capacity (length log) → halt here ≡ None
   unfolding halt_of
   halt-none h l = simp (lt-leb clock_end clock h, le-leb (held + length stage_of.records) (capacity (length log)) l)
 
@@ -127,8 +125,8 @@ module _ (b : Board) (count : ℕ) (log₀ log : List ℕ) (ts : List Track) (cl
   abbrev Out : Advanced → Type 0
   Out a = Ended b (go count (world b log₀)) (record { answer = a; tracks = ts; clock = record { 0 = clock }; held = held }) log
 
-  stopped : (e : Stop) (a : Advanced) → advanced_said a ≡ stopped_by taken (some e) → taken < count →
-      halt (world (board_at b ts clock held) log) ≡ some e → Out a
+  stopped : (e : Stop) (a : Advanced) → advanced_said a ≡ stopped_by taken (Some e) → taken < count →
+      halt (world (board_at b ts clock held) log) ≡ Some e → Out a
   stopped e a s l h =
       let q = g.so_far ∙ later-off halt step count taken (world (board_at b ts clock held) log) e l h in
       record {
@@ -202,7 +200,7 @@ module _ (b : Board) (log : List ℕ) (ts : List Track) (clock held r : ℕ) (l 
   none_written j h = omega (arith, ap (λ (s : Stage). length s.records) (quiet-stage j h))
 
   -- each is taken
-  pub halt-at : (j : ℕ) → j < r → clock + j < clock_end → halt (at j) ≡ none
+  pub halt-at : (j : ℕ) → j < r → clock + j < clock_end → halt (at j) ≡ None
   halt-at j h c = halt-none b log (leapt j) (clock + j) held c (none_written j h)
 
   pub step-at : (j : ℕ) → j < r → step (at j) ≡ at (suc j)
@@ -213,15 +211,15 @@ module _ (b : Board) (log : List ℕ) (ts : List Track) (clock held r : ℕ) (l 
       ∙ ap (λ (s : Stage). world (board_at b s.tracks (clock + j + 1) (held + length s.records)) (write_at log (held * record_width) (log_bytes s.records))) (quiet-stage j h)
       ∙ (λ k. world (board_at b (leapt (suc j)) (e k) (add-zero held k)) (write-none log (held * record_width) k))
 
-  ticks-at : (k j : ℕ) → j + k ≤ r → clock + (j + k) ≤ clock_end → go k (at j) ≡ record { taken = k; why = none; end = at (j + k) }
+  ticks-at : (k j : ℕ) → j + k ≤ r → clock + (j + k) ≤ clock_end → go k (at j) ≡ record { taken = k; why = None; end = at (j + k) }
   unfolding ticks
-  ticks-at zero j h c = ap (λ (m : ℕ). record { taken = 0; why = none; end = at m }) (sym (add-zero j))
+  ticks-at zero j h c = ap (λ (m : ℕ). record { taken = 0; why = None; end = at m }) (sym (add-zero j))
   ticks-at (suc k) j h c =
       let e : suc j + k ≡ j + suc k = omega arith in
       ticks-on halt step k (at j) (halt-at j (omega arith) (omega arith))
       ∙ ap (λ (w : World Board). counted (go k w)) (step-at j (omega arith))
       ∙ ap counted (ticks-at k (suc j) (omega arith) (omega arith))
-      ∙ ap (λ (m : ℕ). record { taken = suc k; why = none; end = at m }) e
+      ∙ ap (λ (m : ℕ). record { taken = suc k; why = None; end = at m }) e
 
   keeps-at : unbroken_test (board_at b ts clock held) ≡ true → (k : ℕ) → k ≤ r → clock + k ≤ clock_end → unbroken_test (board_at b (leapt k) (clock + k) held) ≡ true
   keeps-at u zero h c =
@@ -265,11 +263,11 @@ going-leap b count log₀ log ts clock held taken answer g word r k ew leapable 
     en ∙ ap (λ (w : ℕ). leap_into k ts (members w) ts) ew ∙ leap-into k b.present ts g.tracks_long in
     let run = ticks-at b log ts clock held r g.tracks_long leapable' skipped' mastered steady fit k 0 (omega arith) (omega arith) in
     let z : 0 + k ≡ k = omega arith in
-    let run' : go k (world (board_at b ts clock held) log) ≡ record { taken = k; why = none; end = world (board_at b next (clock + k) held) log } =
+    let run' : go k (world (board_at b ts clock held) log) ≡ record { taken = k; why = None; end = world (board_at b next (clock + k) held) log } =
     (λ j. go k (world (board_at b (sym (leap-tracks-zero b.present ts g.tracks_long leapable') j) (sym (add-zero clock) j) held) log))
     ∙ run
-    ∙ (λ j. record { taken = k; why = none; end = world (board_at b (leap_tracks (z j) b.present ts) (clock + z j) held) log })
-    ∙ (λ j. record { taken = k; why = none; end = world (board_at b (sym e j) (clock + k) held) log }) in
+    ∙ (λ j. record { taken = k; why = None; end = world (board_at b (leap_tracks (z j) b.present ts) (clock + z j) held) log })
+    ∙ (λ j. record { taken = k; why = None; end = world (board_at b (sym e j) (clock + k) held) log }) in
     record {
       taken_le = omega (arith, g.taken_le);
       answer_is = refl;
@@ -293,18 +291,18 @@ module _ (b : Board) (log : List ℕ) (count : ℤ) where
   given = does (call.Advance count) (world b log)
 
   -- a refusal ahead of the count, whatever the count
-  barred-gives : (k : ℕ) → bar_of (length log) b ≡ some k → Gives given (refused k) b log
+  barred-gives : (k : ℕ) → bar_of (length log) b ≡ Some k → Gives given (refused k) b log
   unfolding run_count says_of makes_of
   barred-gives k e = at (natural_of count 0 most) refl
     where
-      at : (n : Natural) → natural_of count 0 most ≡ n → Gives (perform gridstep (sorted most run_count advance_by (call.Advance count) (taken? n)) (world b log)) (refused k) b log
-      at natural.Outside q =
+      at : (n : Option ℕ) → natural_of count 0 most ≡ n → Gives (perform gridstep (sorted most run_count advance_by (call.Advance count) n) (world b log)) (refused k) b log
+      at None q =
           record {
             answer_is = sym (ap barred e);
             board_is = ap (λ (h : ℕ). board_with b b.tracks b.present b.points h) (sym (add-zero b.held));
             log_is = refl;
           }
-      at (natural.In n) q =
+      at (Some n) q =
           let o = advance-out halt step (w-bar gridstep) stopped_by refused n (world b log) k e in
           record {
             answer_is = sym (ap (λ (d : Did Reply (World Board)). d.answer) o);
@@ -315,22 +313,22 @@ module _ (b : Board) (log : List ℕ) (count : ℤ) where
   pub advance-broken : unbroken_test b ≡ false → Gives given (refused 3) b log
   advance-broken h = barred-gives 3 (bar-broken h)
     where
-      bar-broken : unbroken_test b ≡ false → bar_of (length log) b ≡ some 3
+      bar-broken : unbroken_test b ≡ false → bar_of (length log) b ≡ Some 3
       bar-broken h = unfold bar_of in simp h
 
   pub advance-short : unbroken_test b ≡ true → capacity (length log) < b.held → Gives given (refused 7) b log
   advance-short u h = barred-gives 7 (unfold bar_of in simp (u, lt-leb b.held (capacity (length log)) h))
 
   module _ (u : unbroken_test b ≡ true) (h : b.held ≤ capacity (length log)) where
-    pub open-bar : bar_of (length log) b ≡ none
+    pub open-bar : bar_of (length log) b ≡ None
     unfolding bar_of
     open-bar = simp (u, le-leb b.held (capacity (length log)) h)
 
     -- a count outside its range
-    pub advance-outside : natural_of count 0 most ≡ natural.Outside → Gives given (refused 3) b log
+    pub advance-outside : natural_of count 0 most ≡ None → Gives given (refused 3) b log
     unfolding run_count says_of makes_of
     advance-outside q =
-        subst (λ (n : Natural). Gives (perform gridstep (sorted most run_count advance_by (call.Advance count) (taken? n)) (world b log)) (refused 3) b log) (sym q)
+        subst (λ (n : Option ℕ). Gives (perform gridstep (sorted most run_count advance_by (call.Advance count) n) (world b log)) (refused 3) b log) (sym q)
         (record {
           answer_is = sym (ap barred open-bar);
           board_is = ap (λ (k : ℕ). board_with b b.tracks b.present b.points k) (sym (add-zero b.held));
@@ -338,12 +336,12 @@ module _ (b : Board) (log : List ℕ) (count : ℤ) where
         })
 
     -- so many ticks
-    pub advance-runs : {n : ℕ} → natural_of count 0 most ≡ natural.In n → {r : Left} {log' : List ℕ} → Ended b (go n (world b log)) r log' →
+    pub advance-runs : {n : ℕ} → natural_of count 0 most ≡ Some n → {r : Left} {log' : List ℕ} → Ended b (go n (world b log)) r log' →
         Gives given (advanced_said r.answer) (board_left b r) log'
     unfolding run_count
     advance-runs {n} q {r} {log'} e =
         let o = advance-in halt step (w-bar gridstep) stopped_by refused n (world b log) open-bar in
-        subst (λ (m : Natural). Gives (perform gridstep (sorted most run_count advance_by (call.Advance count) (taken? m)) (world b log)) (advanced_said r.answer) (board_left b r) log') (sym q)
+        subst (λ (m : Option ℕ). Gives (perform gridstep (sorted most run_count advance_by (call.Advance count) m) (world b log)) (advanced_said r.answer) (board_left b r) log') (sym q)
         (record {
           answer_is = e.answer_is ∙ sym (ap (λ (d : Did Reply (World Board)). d.answer) o);
           board_is = e.board_is ∙ sym (ap (λ (d : Did Reply (World Board)). d.left.board) o);

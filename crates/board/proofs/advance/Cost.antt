@@ -1,12 +1,12 @@
 -- The turns of the tick loop are bounded by the records that it writes and the ticks in which a track of a follower's pair leaves its
 -- line, and not by all ticks: `turns_left` is the measure of the loop (`decreases-ticks` in advance/run/Invariants), which every turn that goes
 -- round again lessens by one at least.
+use Rattle.std.specs.Prelude.{Option, Some, None}
 use Prim.Native.Nat.{ℕ, zero, suc, ◌+◌, ◌-◌, ◌*◌, ◌/◌, ◌%◌, ◌^◌, ◌≤◌, ◌<◌, min, suc-le-suc}
 use mathlib.Core.Path.{◌≡◌, refl, sym, ap, ◌∙◌}
 use mathlib.Core.Logic.{◌⊎◌, inl, inr, ⊎_elim}
 use mathlib.Core.Bool.{Bool, true, false, cond, not, true≢false}
 use mathlib.Core.List.{List, [], ◌∷◌}
-use mathlib.Core.Option.{Option, none, some}
 use native.Mathlib.Omega.{arith}
 use native.Mathlib.Nat.{add-zero, div-one, zero-lt-suc}
 use lib.Dec.{eqb}
@@ -17,7 +17,7 @@ use Rattle.track.specs.Rule.{clock_end}
 use Rattle.track.specs.Follow.{up_to_zero, thresholds_of, follows}
 use Rattle.track.proofs.Tests.{cond_cases}
 use Rattle.board.specs.Log.{write_at, record_width, log_bytes, capacity}
-use Rattle.board.specs.Points.{keys_of, infos_of, track_count}
+use Rattle.board.specs.Points.{keys_of, infos_of, track_count, NonzeroInfos}
 use Rattle.board.specs.Board.{track_at, Unbroken}
 use Rattle.board.specs.declared.Board.{Board}
 use Rattle.board.specs.Cut.{Ran, ticks}
@@ -27,7 +27,7 @@ use Rattle.board.proofs.rules.Broken.{present-bit, half-bit, unbroken-of}
 use Rattle.board.proofs.replay.Cuts.{ticks-on, ticks-off}
 use Rattle.board.specs.Tick.{members, Stage, playing_word, follow_bit, follow_word, band_bit, band_count}
 use Rattle.board.specs.Steady.{SteadyFor, PairLeaves}
-use Rattle.board.specs.Quiet.{Some, QuietFor, master_of, Fewest, Leapable, NonzeroInfos, leap_tracks}
+use Rattle.board.specs.Quiet.{AnyOf, QuietFor, master_of, Fewest, Leapable, leap_tracks}
 use Rattle.board.proofs.quiet.Leaps.{leap-tracks-long, leap-tracks-word, leap-tracks-zero}
 use Rattle.board.proofs.quiet.Bands.{leap-bands}
 use Rattle.board.proofs.quiet.Pairs.{Mastered}
@@ -110,8 +110,8 @@ held-grows (suc n) u = at (w-halt gridstep u) refl (held-grows n (w-step gridste
   where
     at : (o : Option Stop) → w-halt gridstep u ≡ o → (w-step gridstep u).board.held ≤ (go n (w-step gridstep u)).end.board.held
         → u.board.held ≤ (go (suc n) u).end.board.held
-    at none e h = omega (arith, ap (λ (x : Ran Stop (World Board)). x.end.board.held) (ticks-on (w-halt gridstep) (w-step gridstep) n u e))
-    at (some s) e h = omega (arith, ap (λ (x : Ran Stop (World Board)). x.end.board.held) (ticks-off (w-halt gridstep) (w-step gridstep) n u s e))
+    at None e h = omega (arith, ap (λ (x : Ran Stop (World Board)). x.end.board.held) (ticks-on (w-halt gridstep) (w-step gridstep) n u e))
+    at (Some s) e h = omega (arith, ap (λ (x : Ran Stop (World Board)). x.end.board.held) (ticks-off (w-halt gridstep) (w-step gridstep) n u s e))
 
 more : (left room : ℕ) → 0 < left → 0 < room → min 1 (min left room) ≡ 1
 more left room p q = omega arith
@@ -217,7 +217,7 @@ module _ (b : Board) (count : ℕ) (log₀ : List ℕ) where
             let e : count - taken ≡ k + suc (count - taken') = omega (arith, g'.taken_le) in
             λ j. leavings (e j) (here (sym (leap-tracks-zero b.present ts g.tracks_long leapable) j) (sym (add-zero clock) j) held log)
 
-        halts : (j : ℕ) → j < k → w-halt gridstep (passing j) ≡ none
+        halts : (j : ℕ) → j < k → w-halt gridstep (passing j) ≡ None
         halts j h = halt-at b log ts clock held r g.tracks_long leapable quiet mastered steady fit j (omega arith) (omega (arith, late))
 
         steps : (j : ℕ) → j < k → w-step gridstep (passing j) ≡ passing (suc j)
@@ -233,7 +233,7 @@ module _ (b : Board) (count : ℕ) (log₀ : List ℕ) where
             omega (arith, walked, begins, leavings-over passing k halts steps k 0 (suc (count - taken')) (omega arith))
 
         -- and less, if a track leaves its line in one of them
-        leavings-fewer : Some (λ i. PairLeaves (suc k) (track_at ts i) (master_of ts i)) (led ts)
+        leavings-fewer : AnyOf (λ i. PairLeaves (suc k) (track_at ts i) (master_of ts i)) (led ts)
             → leavings (count - taken') (here ts' clock' held' log') < leavings (count - taken) (here ts clock held log)
         leavings-fewer s =
             let w = leap-leaves b ts clock held (suc k) mastered s in

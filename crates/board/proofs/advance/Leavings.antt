@@ -1,10 +1,10 @@
 -- The ticks in which a track of a follower's pair leaves its line or the pair is at an edge, counted over the ticks that are taken.
+use Rattle.std.specs.Prelude.{Option, Some, None}
 use Prim.Native.Nat.{ℕ, zero, suc, ◌+◌, ◌-◌, ◌≤◌, ◌<◌, min}
 use mathlib.Core.Path.{◌≡◌, refl, sym, ap, ◌∙◌}
 use mathlib.Core.Logic.{◌⊎◌, inl, inr}
 use mathlib.Core.Bool.{Bool, true, false, cond, ◌||◌, true≢false}
 use mathlib.Core.List.{List, [], ◌∷◌}
-use mathlib.Core.Option.{Option, none, some}
 use native.Mathlib.Omega.{arith}
 use Rattle.track.specs.declared.Track.{Track}
 use Rattle.track.specs.Rule.{clock_end}
@@ -14,7 +14,7 @@ use Rattle.board.specs.Board.{track_at, is_present}
 use Rattle.board.specs.Points.{keys_of, infos_of}
 use Rattle.board.specs.Tick.{members, follow_word}
 use Rattle.board.specs.Steady.{goes, turns_back, low_held, high_held, at_edge, PairLeaves}
-use Rattle.board.specs.Quiet.{Some, master_of, leap_tracks}
+use Rattle.board.specs.Quiet.{AnyOf, master_of, leap_tracks}
 use Rattle.board.specs.Cut.{passed}
 use Rattle.board.specs.Replay.{World, Each, w-halt, w-step, total}
 use Rattle.board.specs.Call.{Stop, ends, gridstep}
@@ -35,12 +35,12 @@ step = w-step gridstep
 -- ---- one tick
 
 -- one that is taken counts
-pub leavings-on : (n : ℕ) (u : World Board) → halt u ≡ none → leavings (suc n) u ≡ leaving u.board + leavings n (step u)
+pub leavings-on : (n : ℕ) (u : World Board) → halt u ≡ None → leavings (suc n) u ≡ leaving u.board + leavings n (step u)
 unfolding leavings
 leavings-on n u h = ap (total (λ (w : World Board). leaving w.board)) (passed_on halt step n u h)
 
 -- one that is not taken ends the count
-leavings-off : (n : ℕ) (u : World Board) (e : Stop) → halt u ≡ some e → leavings (suc n) u ≡ 0
+leavings-off : (n : ℕ) (u : World Board) (e : Stop) → halt u ≡ Some e → leavings (suc n) u ≡ 0
 unfolding leavings
 leavings-off n u e h = ap (total (λ (w : World Board). leaving w.board)) (passed-off halt step n u e h)
 
@@ -66,12 +66,12 @@ no-follower (suc n) u e =
     (tick-follow-word (keys_of u.board.points) (infos_of u.board.points) (u.board.clock.0 + 1) u.board.present u.board.tracks ∙ e))
   where
     go : (o : Option Stop) → halt u ≡ o → leavings n (step u) ≡ 0 → leavings (suc n) u ≡ 0
-    go none h ih = omega (arith, leavings-on n u h, none-leaves u.board e, ih)
-    go (some s) h ih = leavings-off n u s h
+    go None h ih = omega (arith, leavings-on n u h, none-leaves u.board e, ih)
+    go (Some s) h ih = leavings-off n u s h
 
 -- ---- a row of ticks that are taken
 
-module _ (at : ℕ → World Board) (r : ℕ) (halts : (j : ℕ) → j < r → halt (at j) ≡ none)
+module _ (at : ℕ → World Board) (r : ℕ) (halts : (j : ℕ) → j < r → halt (at j) ≡ None)
     (steps : (j : ℕ) → j < r → step (at j) ≡ at (suc j)) where
   first : (j n : ℕ) → j < r → leavings (suc n) (at j) ≡ leaving (at j).board + leavings n (at (suc j))
   first j n h = leavings-on n (at j) (halts j h) ∙ ap (λ (w : World Board). leaving (at j).board + leavings n w) (steps j h)
@@ -152,8 +152,8 @@ module _ (present : ℕ) (ts : List Track) (r : ℕ) where
         go (inr (inl e)) = or-second (turns_back (track_at us i)) _ (or-first (turns_back (master_of us i)) _ (ap turns_back m-is ∙ e))
         go (inr (inr e)) = or-second (turns_back (track_at us i)) _ (or-second (turns_back (master_of us i)) _ (edge-is ∙ e))
 
-  left_one : (fs : List ℕ) → Mastered present ts fs → Some (λ i. PairLeaves r (track_at ts i) (master_of ts i)) fs → Left fs
-  unfolding Each Some one_leaves
+  left_one : (fs : List ℕ) → Mastered present ts fs → AnyOf (λ i. PairLeaves r (track_at ts i) (master_of ts i)) fs → Left fs
+  unfolding Each AnyOf one_leaves
   left_one [] m s = absurd s
   left_one (i ∷ fs) m (inl w) = (w.at, w.before, or-first _ _ (pair_left i m.0.0 m.0.1 w))
   left_one (i ∷ fs) m (inr s) =
@@ -163,7 +163,7 @@ module _ (present : ℕ) (ts : List Track) (r : ℕ) where
 
 -- on a board with these tracks
 pub leap-leaves : (b : Board) (ts : List Track) (clock held r : ℕ) → Mastered b.present ts (members (follow_word b.present ts))
-    → Some (λ i. PairLeaves r (track_at ts i) (master_of ts i)) (members (follow_word b.present ts))
+    → AnyOf (λ i. PairLeaves r (track_at ts i) (master_of ts i)) (members (follow_word b.present ts))
     → (j : ℕ) × (j < r) × (0 < leaving (board_at b (leap_tracks j b.present ts) (clock + j) held))
 unfolding leaving
 leap-leaves b ts clock held r m s =

@@ -1,10 +1,10 @@
 -- A tick apart from the log (02, 2.2): what a taken tick writes, and the board after it but for held, are told by the board alone; of the
 -- tick rule, and of `advance` by its own contract.
+use Rattle.std.specs.Prelude.{Option, Some, None}
 use Prim.Native.Nat.{ℕ, ◌+◌, ◌*◌, ◌≤◌, ◌<◌, zero-le}
 use mathlib.Core.Path.{◌≡◌, refl, sym, ◌∙◌, ap, subst}
 use mathlib.Core.Bool.{true}
 use mathlib.Core.List.{List}
-use mathlib.Core.Option.{Option, none, some}
 use native.Mathlib.Omega.{arith}
 use lib.IntN.{pos}
 use lib.ListN.{length}
@@ -83,36 +83,36 @@ module _ (w : World Board) where
   abbrev went : Ran Stop (World Board)
   went = ticks (w-halt gridstep) (w-step gridstep) 1 w
 
-  one-went : w-bar gridstep w ≡ none → does (call.Advance (pos 1)) w ≡ record { answer = stopped_by went.taken went.why; left = went.end }
+  one-went : w-bar gridstep w ≡ None → does (call.Advance (pos 1)) w ≡ record { answer = stopped_by went.taken went.why; left = went.end }
   one-went e = one-run ∙ advance-in (w-halt gridstep) (w-step gridstep) (w-bar gridstep) stopped_by refused 1 w e
 
-  one_on : w-halt gridstep w ≡ none → went ≡ record { taken = 1; why = none; end = w-step gridstep w }
+  one_on : w-halt gridstep w ≡ None → went ≡ record { taken = 1; why = None; end = w-step gridstep w }
   unfolding ticks
   one_on e = ticks-on (w-halt gridstep) (w-step gridstep) 0 w e
 
-  one-off : (x : Stop) → w-halt gridstep w ≡ some x → went ≡ record { taken = 0; why = some x; end = w }
+  one-off : (x : Stop) → w-halt gridstep w ≡ Some x → went ≡ record { taken = 0; why = Some x; end = w }
   one-off x e = ticks-off (w-halt gridstep) (w-step gridstep) 0 w x e
 
   -- if it answers Done with 1, that tick is taken, and nothing else is done
-  pub one-taken : (does (call.Advance (pos 1)) w).answer ≡ done 1 → (w-halt gridstep w ≡ none) × ((does (call.Advance (pos 1)) w).left ≡ w-step gridstep w)
+  pub one-taken : (does (call.Advance (pos 1)) w).answer ≡ done 1 → (w-halt gridstep w ≡ None) × ((does (call.Advance (pos 1)) w).left ≡ w-step gridstep w)
   unfolding read
   one-taken a = bars (w-bar gridstep w) refl
     where
-      halts : (o : Option Stop) → w-halt gridstep w ≡ o → went.taken ≡ 1 → (w-halt gridstep w ≡ none) × (went.end ≡ w-step gridstep w)
-      halts none e n = (e, ap (λ (r : Ran Stop (World Board)). r.end) (one_on e))
-      halts (some x) e n = absurd (omega (arith, n, ap (λ (r : Ran Stop (World Board)). r.taken) (one-off x e)))
+      halts : (o : Option Stop) → w-halt gridstep w ≡ o → went.taken ≡ 1 → (w-halt gridstep w ≡ None) × (went.end ≡ w-step gridstep w)
+      halts None e n = (e, ap (λ (r : Ran Stop (World Board)). r.end) (one_on e))
+      halts (Some x) e n = absurd (omega (arith, n, ap (λ (r : Ran Stop (World Board)). r.taken) (one-off x e)))
 
-      bars : (o : Option ℕ) → w-bar gridstep w ≡ o → (w-halt gridstep w ≡ none) × ((does (call.Advance (pos 1)) w).left ≡ w-step gridstep w)
-      bars none e =
+      bars : (o : Option ℕ) → w-bar gridstep w ≡ o → (w-halt gridstep w ≡ None) × ((does (call.Advance (pos 1)) w).left ≡ w-step gridstep w)
+      bars None e =
           let taken = sym (read.taken_done went.taken went.why) ∙ ap taken_in (rw (one-went e) at a) in
           rw (one-went e) (halts (w-halt gridstep w) refl taken)
-      bars (some k) e =
+      bars (Some k) e =
           let out = one-run ∙ advance-out (w-halt gridstep) (w-step gridstep) (w-bar gridstep) stopped_by refused 1 w k e in
           absurd (omega (arith, ap taken_in (rw out at a)))
 
 -- an advance by 1 of an unbroken board, whose held records are in the log, below the clock's end: its tick is kept if its records fit
 module _ (b : Board) (h : ℕ) (log : List ℕ) (u : unbroken_test b ≡ true) (f : h ≤ capacity (length log)) (l : b.clock.0 < clock_end) where
-  goes : w-bar gridstep (lent b h log) ≡ none
+  goes : w-bar gridstep (lent b h log) ≡ None
   goes = open-bar (held_at h b) log (pos 1) u f
 
   pub one_kept : h + length (tick_of b).records ≤ capacity (length log) →

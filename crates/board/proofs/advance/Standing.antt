@@ -2,11 +2,11 @@
 use Prim.Native.Nat.{ℕ, ◌+◌, ◌-◌, ◌*◌, ◌≤◌, ◌<◌, min}
 use mathlib.Core.Path.{◌≡◌, refl, sym, ◌∙◌, ap, subst}
 use mathlib.Core.Bool.{Bool, true, false, cond, true≢false}
-use mathlib.Core.List.{List}
+use mathlib.Core.List.{List, []}
 use native.Mathlib.Omega.{arith}
 use lib.Count.{ones, count_trailing_zeros}
 use lib.Dec.{eqb}
-use lib.ListN.{length, take}
+use lib.ListN.{length}
 use Rattle.track.specs.declared.Track.{Track}
 use Rattle.track.specs.Rule.{clock_end, Valid}
 use Rattle.track.specs.Walk.{arrival}
@@ -15,9 +15,9 @@ use Rattle.board.specs.declared.Board.{Board}
 use Rattle.board.specs.declared.call.Advanced.{Advanced}
 use Rattle.board.specs.declared.call.Advanced.TheVariants.{Done, LogFull}
 use Rattle.board.specs.Log.{write_at, record_width, log_bytes, capacity}
-use Rattle.board.specs.Points.{keys_of, infos_of, info_at, key, track_count}
+use Rattle.board.specs.Points.{keys_of, infos_of, info_at, key}
 use Rattle.board.specs.Board.{Unbroken, track_at, is_present, points_test}
-use Rattle.board.specs.Tick.{Stage, found_by, members, playing_word, follow_word, band_count, tick_most, FollowRules}
+use Rattle.board.specs.Tick.{Stage, tick_from, found_by, members, playing_word, follow_word, band_count, tick_most, FollowRules}
 use Rattle.board.specs.Replay.{Each}
 use Rattle.board.specs.Steady.{SteadyFor}
 use Rattle.board.specs.Quiet.{QuietFor, master_of, Fewest, WithMaster, CanLeap, Leapable, leap_tracks, leap_into}
@@ -37,13 +37,10 @@ use Rattle.board.proofs.advance.Judged.{fewest-same, Ticked, played-rules}
 use Rattle.board.proofs.advance.Cost.{leap-less, walk-less}
 
 -- what is known at the head of the tick loop: `taken` ticks done of `count`, and the words and rows that it keeps
-pub record Standing (b : Board) (count : ℕ) (log₀ log : List ℕ) (ts : List Track) (clock held taken : ℕ) (answer : Advanced) (word led : ℕ)
-    (stage reached : List ℕ) : Type 0 where
+pub record Standing (b : Board) (count : ℕ) (log₀ log : List ℕ) (ts : List Track) (clock held taken : ℕ) (answer : Advanced) (word led : ℕ) : Type 0 where
   pub going : Going b count log₀ log ts clock held taken answer
   pub word_is : word ≡ playing_word b.present ts
   pub led_is : led ≡ follow_word b.present ts
-  pub stage_long : length stage ≡ tick_most * record_width
-  pub reached_long : length reached ≡ track_count
 
 -- `skipped` quiet ticks, of at most `most`, are leapt in this turn: all that there are, if it looked and they are fewer than `most`
 pub record Skips (b : Board) (ts : List Track) (look : Bool) (most skipped : ℕ) : Type 0 where
@@ -66,10 +63,16 @@ pub record Pass (b : Board) (count : ℕ) (log₀ log : List ℕ) (ts back : Lis
   pub room_is : room ≡ capacity (length log₀) - held
   pub back_is : room < tick_most → back ≡ leap_tracks unleapt b.present ts
 
+-- the number of a tick's records, by their bytes
+ticked-count : {b : Board} {ts after : List Track} {clock word total : ℕ} {stage : List ℕ} → Ticked b ts clock after stage word → length stage ≡ total * record_width
+    → total ≡ length (tick_from (keys_of b.points) (infos_of b.points) (clock + 1) b.present ts).records
+ticked-count {b} {ts} {clock = clock} t e =
+    omega (arith, e, ap length t.bytes, length-log (tick_from (keys_of b.points) (infos_of b.points) (clock + 1) b.present ts).records)
+
 -- ---- at the head of the loop
 
-module _ {b : Board} {count : ℕ} {log₀ log : List ℕ} {ts : List Track} {clock held taken : ℕ} {answer : Advanced} {word led : ℕ} {stage reached : List ℕ}
-    (s : Standing b count log₀ log ts clock held taken answer word led stage reached) where
+module _ {b : Board} {count : ℕ} {log₀ log : List ℕ} {ts : List Track} {clock held taken : ℕ} {answer : Advanced} {word led : ℕ}
+    (s : Standing b count log₀ log ts clock held taken answer word led) where
   -- the board as it stands keeps the rules
   pub whole : Unbroken (board_at b ts clock held)
   whole = unbroken-of _ s.going.whole
@@ -138,14 +141,12 @@ module _ {b : Board} {count : ℕ} {log₀ log : List ℕ} {ts : List Track} {cl
       same-word : playing_word b.present next ≡ playing_word b.present ts
       same-word = ap (playing_word b.present) next-is ∙ leap-tracks-word most b.present ts
 
-      pub all-leapt : Standing b count log₀ log next (clock + most) held (taken + most) (Done (record { 0 = taken + most })) word led stage reached
+      pub all-leapt : Standing b count log₀ log next (clock + most) held (taken + most) (Done (record { 0 = taken + most })) word led
       all-leapt =
           record {
             going = going-all;
             word_is = s.word_is ∙ sym same-word;
             led_is = s.led_is ∙ sym (leap-follow-word most b.present ts) ∙ ap (follow_word b.present) (sym next-is);
-            stage_long = s.stage_long;
-            reached_long = s.reached_long;
           }
 
       pub all-less : taken < count → clock < clock_end →
@@ -202,36 +203,37 @@ module _ {b : Board} {count : ℕ} {log₀ log : List ℕ} {ts : List Track} {cl
             back_is = λ h. begun.1 h ∙ sym l;
           }
 
-      pub turning-begun : Turning b us (clock + skipped) word unleapt stage reached us word (ones word) 0 0 false
-      turning-begun =
+      pub turning-begun : {stage reached : List ℕ} → stage ≡ [] → reached ≡ [] →
+          Turning b us (clock + skipped) word unleapt stage reached us word (ones word) false
+      turning-begun {stage} {reached} es er =
           let l = begun.0.leaps in
           let w = s.word_is ∙ sym begun.0.word in
-          turning-start b us (clock + skipped) word unleapt stage reached w begun.0.long
+          subst (λ (xs : List ℕ). Turning b us (clock + skipped) word unleapt xs reached us word (ones word) false) (sym es)
+          (subst (λ (ds : List ℕ). Turning b us (clock + skipped) word unleapt [] ds us word (ones word) false) (sym er)
+          (turning-start b us (clock + skipped) word unleapt w begun.0.long
           (subst (λ (v : ℕ). Leapable us (members v)) (sym w) begun.0.leapable)
           (subst (λ (vs : List Track). Leapable vs (members (playing_word b.present vs))) (sym l) (unbroken-leapable _ whole-on))
-          (subst (λ (vs : List Track). (i : ℕ) → is_present b.present i ≡ true → Valid (track_at vs i)) (sym l) (λ i h. (whole-on.tracks i h).valid))
-          s.stage_long s.reached_long
+          (subst (λ (vs : List Track). (i : ℕ) → is_present b.present i ≡ true → Valid (track_at vs i)) (sym l) (λ i h. (whole-on.tracks i h).valid))))
 
       -- the tick is walked and taken: fewer turns are left
-      pub walked-less : {after : List Track} {total : ℕ} {stage' log' : List ℕ} {word' : ℕ} {answer' : Advanced} →
-          Ticked b (leap_tracks unleapt b.present us) (clock + skipped) after total stage' word' →
-          Going b count log₀ log' after (clock + skipped + 1) (held + total) (taken + skipped + 1) answer' →
-          log' ≡ write_at log (held * record_width) (take (total * record_width) stage') →
+      pub walked-less : (total : ℕ) {after : List Track} {stage' log' : List ℕ} {word' : ℕ} {answer' : Advanced} →
+          Ticked b (leap_tracks unleapt b.present us) (clock + skipped) after stage' word' → length stage' ≡ total * record_width →
+          Going b count log₀ log' after (clock + skipped + 1) (held + total) (taken + skipped + 1) answer' → log' ≡ write_at log (held * record_width) stage' →
           turns_left (eqb total 0) (count - (taken + skipped + 1)) (world (board_at b after (clock + skipped + 1) (held + total)) log')
           < turns_left look (count - taken) (world (board_at b ts clock held) log)
-      walked-less {after} {total} {stage'} {log'} {word'} {answer'} t g el =
-          let t' : Ticked b led-to (clock + skipped) after total stage' word' =
-          subst (λ (vs : List Track). Ticked b vs (clock + skipped) after total stage' word') begun.0.leaps t in
+      walked-less total {after} {stage'} {log'} {word'} {answer'} t es g el =
+          let t' : Ticked b led-to (clock + skipped) after stage' word' =
+          subst (λ (vs : List Track). Ticked b vs (clock + skipped) after stage' word') begun.0.leaps t in
           walk-less b count log₀ s.going g behind (omega arith) skipped (unbroken-leapable _ whole) mastered (unbroken-infos _ whole)
-          refl t'.tracks t'.count refl refl (el ∙ ap (write_at log (held * record_width)) t'.bytes)
+          refl t'.tracks (ticked-count t' es) refl refl (el ∙ ap (write_at log (held * record_width)) t'.bytes)
           q.quiet_for q.within q.quiet q.steady look (omega (arith, whole.clock)) (q.longest short)
 
 -- ---- a member of the pass
 
 -- the track leapt can step
-pub stepping : {b : Board} {ts next : List Track} {stage reached : List ℕ} {clock word skipped rest left staged m : ℕ} {more : Bool} {x : Track} →
-    Turning b ts clock word skipped stage reached next rest left staged m more → 0 < left → x ≡ leap (track_at next (count_trailing_zeros 16 rest)) skipped → CanLeap x
-stepping t h e = subst CanLeap (sym e) (turning-leapt _ _ _ _ _ _ _ _ _ _ _ _ _ t h)
+pub stepping : {b : Board} {ts next : List Track} {stage reached : List ℕ} {clock word skipped rest left : ℕ} {more : Bool} {x : Track} →
+    Turning b ts clock word skipped stage reached next rest left more → 0 < left → x ≡ leap (track_at next (count_trailing_zeros 16 rest)) skipped → CanLeap x
+stepping t h e = subst CanLeap (sym e) (turning-leapt _ _ _ _ _ _ _ _ _ _ _ t h)
 
 -- what is met where the track arrives is what the tick finds there
 pub met-found : (ks is : List ℕ) (i : ℕ) (x : Track) {made : Bool} {l d : ℕ} → d ≡ cond made (info_at (key i l) ks is) 0 → made ≡ moves x → l ≡ arrival x
@@ -268,50 +270,48 @@ module _ {b : Board} {count : ℕ} {log₀ log : List ℕ} {ts back : List Track
       (going-full b count log₀ log leapt clock held taken _ p.going p.behind p.early (omega (arith, p.room_is)))
 
   -- within the pass
-  pub full-early : {stage reached : List ℕ} {next : List Track} {rest left staged m : ℕ} {more : Bool} →
-      Turning b ts clock word unleapt stage reached next rest left staged m more → room < staged →
+  pub full-early : {stage reached : List ℕ} {next : List Track} {rest left n : ℕ} {more : Bool} →
+      Turning b ts clock word unleapt stage reached next rest left more → length stage ≡ n * record_width → room < n →
       Ended b (go count (world b log₀)) (record { answer = LogFull (record { 0 = taken }); tracks = back; clock = record { 0 = clock }; held = held }) log
-  full-early {stage} {reached} {next} {rest} {left} {staged} {m} {more} t r =
-      let o = turning-over b ts clock word unleapt p.word_is stage reached next rest left staged m more t in
-      full (omega (arith, t.steps.few_records)) (omega arith)
+  full-early {stage} {reached} {next} {rest} {left} {n} {more} t el r =
+      let o = turning-over b ts clock word unleapt p.word_is stage reached next rest left more t el in
+      full (omega (arith, t.steps.few_records, length-log t.steps.records, ap length t.steps.bytes_are)) (omega arith)
 
   -- the steps and the commands of the tick are worked out, and the whole tick
-  abbrev pub PlayedHere : (after : List Track) (total : ℕ) (stage : List ℕ) (word' : ℕ) → Type 0
+  abbrev pub PlayedHere : (after : List Track) (stage : List ℕ) (word' : ℕ) → Type 0
   PlayedHere = Played b leapt clock
 
-  abbrev pub TickedHere : (after : List Track) (total : ℕ) (stage : List ℕ) (word' : ℕ) → Type 0
+  abbrev pub TickedHere : (after : List Track) (stage : List ℕ) (word' : ℕ) → Type 0
   TickedHere = Ticked b leapt clock
 
   -- behind the steps and the commands the followers can be judged
-  pub pass-rules : {after : List Track} {total : ℕ} {stage : List ℕ} {word' : ℕ} → PlayedHere after total stage word' → FollowRules after (members led)
-  pass-rules {after} {total} {stage} {word'} t = played-rules b leapt clock after total stage word' t led p.led_is (unbroken-rules _ _ pass-whole)
+  pub pass-rules : {after : List Track} {stage : List ℕ} {word' : ℕ} → PlayedHere after stage word' → FollowRules after (members led)
+  pass-rules {after} {stage} {word'} t = played-rules b leapt clock after stage word' t led p.led_is (unbroken-rules _ _ pass-whole)
 
   -- the whole tick is worked out
-  module _ {after : List Track} {total : ℕ} {stage : List ℕ} {word' : ℕ} (t : TickedHere after total stage word') where
+  module _ {after : List Track} {total : ℕ} {stage : List ℕ} {word' : ℕ} (t : TickedHere after stage word') (el : length stage ≡ total * record_width) where
     pub total-few : total ≤ tick_most
-    total-few = omega (arith, t.count, tick-few (keys_of b.points) (infos_of b.points) (clock + 1) b.present leapt)
+    total-few = omega (arith, ticked-count t el, tick-few (keys_of b.points) (infos_of b.points) (clock + 1) b.present leapt)
 
     pub full-late : room < total →
         Ended b (go count (world b log₀)) (record { answer = LogFull (record { 0 = taken }); tracks = back; clock = record { 0 = clock }; held = held }) log
-    full-late r = full (omega (arith, total-few)) (omega (arith, t.count))
+    full-late r = full (omega (arith, total-few)) (omega (arith, ticked-count t el))
 
     -- and taken
-    module _ (fit : total ≤ room) {log' : List ℕ} (e : log' ≡ write_at log (held * record_width) (take (total * record_width) stage)) where
+    module _ (fit : total ≤ room) {log' : List ℕ} (e : log' ≡ write_at log (held * record_width) stage) where
       going-walked : Going b count log₀ log' after (clock + 1) (held + total) (taken + 1) (Done (record { 0 = taken + 1 }))
       going-walked =
           let bytes = e ∙ ap (write_at log (held * record_width)) t.bytes in
-          going-tick b count log₀ log leapt clock held taken _ p.going p.behind p.early t.tracks t.count (omega (arith, p.room_is)) bytes
+          let c = ticked-count t el in
+          going-tick b count log₀ log leapt clock held taken _ p.going p.behind p.early t.tracks c (omega (arith, p.room_is)) bytes
           (ap length bytes ∙ length-write log (log_bytes tick.records) (held * record_width)
-          (omega (arith, length-log tick.records, t.count, p.going.fits, p.going.long, p.room_is)))
+          (omega (arith, length-log tick.records, c, p.going.fits, p.going.long, p.room_is)))
           (ap length t.tracks ∙ tick-long _ _ _ _ _ ∙ p.going.tracks_long)
 
-      pub walked : {reached : List ℕ} → length reached ≡ track_count →
-          Standing b count log₀ log' after (clock + 1) (held + total) (taken + 1) (Done (record { 0 = taken + 1 })) word' led stage reached
-      walked l =
+      pub walked : Standing b count log₀ log' after (clock + 1) (held + total) (taken + 1) (Done (record { 0 = taken + 1 })) word' led
+      walked =
           record {
             going = going-walked;
             word_is = t.word_is;
             led_is = p.led_is ∙ sym (tick-follow-word _ _ _ _ _) ∙ ap (follow_word b.present) (sym t.tracks);
-            stage_long = t.stage_long;
-            reached_long = l;
           }

@@ -4,10 +4,9 @@ use mathlib.Core.Path.{◌≡◌, refl, sym, ◌∙◌, ap, ap₂, subst}
 use mathlib.Core.Bool.{Bool, true, false, cond, not, ◌||◌, true≢false}
 use mathlib.Core.List.{List, [], ◌∷◌, ◌++◌}
 use native.Mathlib.Omega.{arith}
-use native.Mathlib.Nat.{add-zero}
 use lib.Count.{count_trailing_zeros, ones}
 use lib.Dec.{eqb}
-use lib.ListN.{length, take, set, length-set}
+use lib.ListN.{length, set, length-set}
 use lib.Seq.{get_or-set_same, get_or-set_other, set-set, set_comm}
 use borrow.Author.Tests.{eq-eqb, eqb-true}
 use Rattle.track.specs.declared.Track.{Track}
@@ -18,10 +17,10 @@ use Rattle.track.specs.Leap.{moves, remainder_left, played, leap}
 use Rattle.track.proofs.Tests.{cond_cases}
 use Rattle.board.specs.declared.Board.{Board}
 use Rattle.board.specs.declared.tick.Stepped.{Stepped}
-use Rattle.board.specs.Log.{write_at, record_width, log_bytes}
+use Rattle.board.specs.Log.{record_width, log_bytes}
 use Rattle.board.specs.Points.{ascending_from, keys_of, infos_of, waits, command_of, track_count}
 use Rattle.board.specs.Board.{no_track, track_at, is_present, points_test}
-use Rattle.board.specs.Tick.{Stage, staged, stepped, needs_more, step_records, reached_by, found_by, run_command, run_all, play_from, follow_word, tick_from, play_bit, playing_word, TracksRule, tick_most}
+use Rattle.board.specs.Tick.{Room, Stage, staged, stepped, needs_more, step_records, reached_by, found_by, run_command, run_all, play_from, follow_word, tick_from, play_bit, playing_word, TracksRule}
 use Rattle.board.specs.Tick.{members}
 use Rattle.board.specs.Replay.{Each}
 use Rattle.board.specs.Quiet.{CanLeap, Leapable, leap_into, leap_tracks}
@@ -30,9 +29,9 @@ use Rattle.board.proofs.points.Rows.{ascending-weaken}
 use Rattle.board.proofs.tick.Bits.{Lowest, cleared}
 use Rattle.board.proofs.tick.Commands.{each_set, tracks_run, records_run}
 use Rattle.board.proofs.quiet.Leaps.{leap-into, leap-tracks-long, leap-tracks-word, leap-tracks-zero}
-use Rattle.board.proofs.advance.Members.{Stepping, stepping-start, stepping-step, stepping-over, stepping-done, member-left, none_left}
+use Rattle.board.proofs.advance.Members.{Stepping, stepping-start, stepping-step, stepping-room, stepping-over, stepping-done, member-left, none_left}
 use Rattle.board.proofs.quiet.Players.{word_small}
-use Rattle.board.proofs.tick.Staging.{write-none}
+use Rattle.board.proofs.tick.Staging.{length-log, staged-none}
 use Rattle.board.proofs.tick.Steps.{members-ascend}
 use Rattle.board.proofs.follow.Following.{follow-adds}
 
@@ -111,12 +110,12 @@ stored_is ts i r h =
     ∙ d
 
 -- a tick changes no other field, nor does a leap
-step-moves : (t x : Track) (k : ℕ) (w : Bool) → x ≡ leap t k → stored_track t (stepped (played x w) 0) ≡ played x w
+step-moves : (t x : Track) (k : ℕ) (w : Bool) → x ≡ leap t k → stored_track t (stepped (played x w)) ≡ played x w
 unfolding played step visited leap stride
 step-moves t x k w e =
-    subst (λ (x : Track). stored_track t (stepped (played x w) 0) ≡ played x w) (sym e)
-    (cond_cases (λ (u : Track). stored_track t (stepped u 0) ≡ u) (moves (leap t k))
-    (λ q. cond_cases (λ (u : Track). stored_track t (stepped u 0) ≡ u) (stops (with_remainder (leap t k) (remainder_left (leap t k)))) (λ q. refl) (λ q. refl))
+    subst (λ (x : Track). stored_track t (stepped (played x w)) ≡ played x w) (sym e)
+    (cond_cases (λ (u : Track). stored_track t (stepped u) ≡ u) (moves (leap t k))
+    (λ q. cond_cases (λ (u : Track). stored_track t (stepped u) ≡ u) (stops (with_remainder (leap t k) (remainder_left (leap t k)))) (λ q. refl) (λ q. refl))
     (λ q. refl))
 
 -- ---- what a tick of a track that needs no more keeps
@@ -197,41 +196,41 @@ module _ (present skipped : ℕ) (before : List Track) (l : length before ≡ tr
 -- ---- a turn, as far as it has gone
 
 -- `skipped` ticks leapt and one walked, of the members of `word` but for those of `rest`; so far `more` says whether a step needs more
-pub record Turning (b : Board) (ts : List Track) (clock word skipped : ℕ) (stage reached : List ℕ) (next : List Track) (rest left count m : ℕ) (more : Bool) : Type 0 where
-  pub steps : Stepping b (leap_tracks skipped b.present ts) clock word stage reached (leap_into skipped next (members rest) next) rest left count m
+pub record Turning (b : Board) (ts : List Track) (clock word skipped : ℕ) (stage reached : List ℕ) (next : List Track) (rest left : ℕ) (more : Bool) : Type 0 where
+  pub steps : Stepping b (leap_tracks skipped b.present ts) clock word stage reached (leap_into skipped next (members rest) next) rest left
   pub ready : Leapable next (members rest)
   pub long : length next ≡ track_count
   pub same_word : more ≡ false → word ≡ playing_word b.present next
-  pub no_command : more ≡ false → Each (λ d. command_of d ≡ 0) (take m reached)
+  pub no_command : more ≡ false → Each (λ d. command_of d ≡ 0) reached
 
-pub turning-start : (b : Board) (ts : List Track) (clock word skipped : ℕ) (stage reached : List ℕ) → word ≡ playing_word b.present ts → length ts ≡ track_count →
+pub turning-start : (b : Board) (ts : List Track) (clock word skipped : ℕ) → word ≡ playing_word b.present ts → length ts ≡ track_count →
     Leapable ts (members word) → Leapable (leap_tracks skipped b.present ts) (members (playing_word b.present (leap_tracks skipped b.present ts))) →
-    ((i : ℕ) → is_present b.present i ≡ true → Valid (track_at (leap_tracks skipped b.present ts) i)) → length stage ≡ tick_most * record_width → length reached ≡ track_count →
-    Turning b ts clock word skipped stage reached ts word (ones word) 0 0 false
+    ((i : ℕ) → is_present b.present i ≡ true → Valid (track_at (leap_tracks skipped b.present ts) i)) →
+    Turning b ts clock word skipped [] [] ts word (ones word) false
 unfolding Each
-turning-start b ts clock word skipped stage reached ew l leapable leapable' valid s r =
+turning-start b ts clock word skipped ew l leapable leapable' valid =
     let after = leap_tracks skipped b.present ts in
     let w = leap-tracks-word skipped b.present ts ∙ sym ew in
     record {
-      steps = subst (λ (us : List Track). Stepping b after clock word stage reached us word (ones word) 0 0)
+      steps = subst (λ (us : List Track). Stepping b after clock word [] [] us word (ones word))
           (sym (leap-into skipped b.present ts l) ∙ ap (λ (v : ℕ). leap_into skipped ts (members v) ts) (sym ew))
-          (stepping-start b after clock word stage reached (subst (λ (v : ℕ). v < 65536) (sym ew) (word_small b.present ts l))
-          (subst (λ (v : ℕ). Leapable after (members v)) w leapable') valid (leap-tracks-long skipped b.present ts ∙ l) s r);
+          (stepping-start b after clock word (subst (λ (v : ℕ). v < 65536) (sym ew) (word_small b.present ts l))
+          (subst (λ (v : ℕ). Leapable after (members v)) w leapable') valid (leap-tracks-long skipped b.present ts ∙ l));
       ready = leapable;
       long = l;
       same_word = λ e. ew;
       no_command = λ e. tt;
     }
 
-module _ (b : Board) (ts : List Track) (clock word skipped : ℕ) (stage reached : List ℕ) (next : List Track) (rest left count m : ℕ) (more : Bool)
-    (s : Turning b ts clock word skipped stage reached next rest left count m more) where
+module _ (b : Board) (ts : List Track) (clock word skipped : ℕ) (stage reached : List ℕ) (next : List Track) (rest left : ℕ) (more : Bool)
+    (s : Turning b ts clock word skipped stage reached next rest left more) where
   abbrev i : ℕ
   i = count_trailing_zeros 16 rest
 
   -- where there is a member left
   module _ (h : 0 < left) where
     pub turning-member : Lowest rest
-    turning-member = member-left _ _ _ _ _ _ _ _ _ _ _ s.steps h
+    turning-member = member-left _ _ _ _ _ _ _ _ _ s.steps h
 
     above : ascending_from (suc i) (members (cleared rest)) ≡ true
     above =
@@ -270,21 +269,23 @@ module _ (b : Board) (ts : List Track) (clock word skipped : ℕ) (stage reached
         ∙ ap (leap_into skipped next (members (cleared rest))) (set-set next i (leap (track_at next i) skipped) u)
         ∙ sym (into-from skipped i next (members (cleared rest)) (set next i u) u above)
 
+    -- there is room for its records
+    pub turning-room : Room 2 stage
+    turning-room = stepping-room _ _ _ _ _ _ _ _ _ s.steps h
+
     -- one member leapt and stepped: its records staged, its point noted
     turning-step : (us : List Track) → points_test b.present us 0 (keys_of b.points) (infos_of b.points) ≡ true →
-        {x u : Track} {d count' m' : ℕ} {stage' reached' : List ℕ} {more' : Bool} → x ≡ leap (track_at next i) skipped →
+        {x u : Track} {d : ℕ} {stage' reached' : List ℕ} {more' : Bool} → x ≡ leap (track_at next i) skipped →
         d ≡ found_by (keys_of b.points) (infos_of b.points) i x → u ≡ played x (waits d) →
-        count' ≡ count + length (step_records (clock + 1) i x d) → stage' ≡ write_at stage (count * record_width) (log_bytes (step_records (clock + 1) i x d)) →
-        m' ≡ m + length (reached_by d) → take m' reached' ≡ take m reached ++ reached_by d → length reached' ≡ length reached →
-        more' ≡ (more || needs_more d u.mode) →
-        Turning b ts clock word skipped stage' reached' (set next i u) (cleared rest) (left - 1) count' m' more'
+        stage' ≡ stage ++ log_bytes (step_records (clock + 1) i x d) → reached' ≡ reached ++ reached_by d → more' ≡ (more || needs_more d u.mode) →
+        Turning b ts clock word skipped stage' reached' (set next i u) (cleared rest) (left - 1) more'
     unfolding Each
-    turning-step us p {x} {u} {d} {count'} {m'} {stage'} {reached'} {more'} ex ed eu ec es em er lr et =
+    turning-step us p {x} {u} {d} {stage'} {reached'} {more'} ex ed eu es er et =
         record {
-          steps = subst (λ (ns : List Track). Stepping b (leap_tracks skipped b.present ts) clock word stage' reached' ns (cleared rest) (left - 1) count' m') (put u)
-              (subst (λ (t : Track). d ≡ found_by (keys_of b.points) (infos_of b.points) i t → u ≡ played t (waits d) → count' ≡ count + length (step_records (clock + 1) i t d) → stage' ≡ write_at stage (count * record_width) (log_bytes (step_records (clock + 1) i t d)) → Stepping b (leap_tracks skipped b.present ts) clock word stage' reached' (set (leap_into skipped next (members rest) next) i u) (cleared rest) (left - 1) count' m')
+          steps = subst (λ (ns : List Track). Stepping b (leap_tracks skipped b.present ts) clock word stage' reached' ns (cleared rest) (left - 1)) (put u)
+              (subst (λ (t : Track). d ≡ found_by (keys_of b.points) (infos_of b.points) i t → u ≡ played t (waits d) → stage' ≡ stage ++ log_bytes (step_records (clock + 1) i t d) → Stepping b (leap_tracks skipped b.present ts) clock word stage' reached' (set (leap_into skipped next (members rest) next) i u) (cleared rest) (left - 1))
               (its-leap ∙ sym ex)
-              (λ ed eu ec es. stepping-step _ _ _ _ _ _ _ _ _ _ _ s.steps h us p ed eu ec es em er lr) ed eu ec es);
+              (λ ed eu es. stepping-step _ _ _ _ _ _ _ _ _ s.steps h us p ed eu es er) ed eu es);
           ready = each_set CanLeap next i u (members (cleared rest)) above readies.1;
           long = length-set next i u ∙ s.long;
           same_word = λ e.
@@ -292,36 +293,30 @@ module _ (b : Board) (ts : List Track) (clock word skipped : ℕ) (stage reached
               s.same_word n.0 ∙ sym (word_set b.present next i u (n.2 ∙ sym turning-leapable.plays));
           no_command = λ e.
               let n = needs-more-not more d u.mode (sym et ∙ e) in
-              subst (Each (λ d. command_of d ≡ 0)) (sym er) (each_more (take m reached) d n.1 (s.no_command n.0));
+              subst (Each (λ d. command_of d ≡ 0)) (sym er) (each_more reached d n.1 (s.no_command n.0));
         }
 
     -- the same, where the step's fields are stored one after the other
     pub turning-store : (us : List Track) → points_test b.present us 0 (keys_of b.points) (infos_of b.points) ≡ true →
-        {x : Track} {r : Stepped} {d m' : ℕ} {stage' reached' : List ℕ} {more' : Bool} → x ≡ leap (track_at next i) skipped →
-        d ≡ found_by (keys_of b.points) (infos_of b.points) i x → r ≡ stepped (played x (waits d)) (count + length (step_records (clock + 1) i x d)) →
-        stage' ≡ write_at stage (count * record_width) (log_bytes (step_records (clock + 1) i x d)) →
-        m' ≡ m + length (reached_by d) → take m' reached' ≡ take m reached ++ reached_by d → length reached' ≡ length reached →
-        more' ≡ (more || needs_more d r.mode) →
-        Turning b ts clock word skipped stage' reached' (stored next i r) (cleared rest) (left - 1) r.count m' more'
-    turning-store us p {x} {r} {d} {m'} {stage'} {reached'} {more'} ex ed e es em er lr et =
-        subst (λ (ns : List Track). Turning b ts clock word skipped stage' reached' ns (cleared rest) (left - 1) r.count m' more')
+        {x : Track} {r : Stepped} {d : ℕ} {stage' reached' : List ℕ} {more' : Bool} → x ≡ leap (track_at next i) skipped →
+        d ≡ found_by (keys_of b.points) (infos_of b.points) i x → r ≡ stepped (played x (waits d)) →
+        stage' ≡ stage ++ log_bytes (step_records (clock + 1) i x d) → reached' ≡ reached ++ reached_by d → more' ≡ (more || needs_more d r.mode) →
+        Turning b ts clock word skipped stage' reached' (stored next i r) (cleared rest) (left - 1) more'
+    turning-store us p {x} {r} {d} {stage'} {reached'} {more'} ex ed e es er et =
+        subst (λ (ns : List Track). Turning b ts clock word skipped stage' reached' ns (cleared rest) (left - 1) more')
         (sym (stored_is next i r (omega (arith, s.long, turning-member.inside))))
-        (turning-step us p ex ed
-        (ap (stored_track (track_at next i)) e ∙ step-moves (track_at next i) x skipped (waits d) ex)
-        (ap (λ (r : Stepped). r.count) e) es em er lr et)
+        (turning-step us p ex ed (ap (stored_track (track_at next i)) e ∙ step-moves (track_at next i) x skipped (waits d) ex) es er et)
 
 -- ---- the ways out
 
 -- the steps and the commands of a tick from the tracks ts are worked out: the tracks after them, their records in the stage, the playing word
-pub record Played (b : Board) (ts : List Track) (clock : ℕ) (after : List Track) (total : ℕ) (stage : List ℕ) (word : ℕ) : Type 0 where
+pub record Played (b : Board) (ts : List Track) (clock : ℕ) (after : List Track) (stage : List ℕ) (word : ℕ) : Type 0 where
   pub tracks : after ≡ (play_from (keys_of b.points) (infos_of b.points) (clock + 1) b.present ts).tracks
-  pub count : total ≡ length (play_from (keys_of b.points) (infos_of b.points) (clock + 1) b.present ts).records
-  pub bytes : take (total * record_width) stage ≡ log_bytes (play_from (keys_of b.points) (infos_of b.points) (clock + 1) b.present ts).records
-  pub stage_long : length stage ≡ tick_most * record_width
+  pub bytes : stage ≡ log_bytes (play_from (keys_of b.points) (infos_of b.points) (clock + 1) b.present ts).records
   pub word_is : word ≡ playing_word b.present after
 
 module _ (b : Board) (ts : List Track) (clock word skipped : ℕ) (ew : word ≡ playing_word b.present ts) (stage reached : List ℕ) (next : List Track)
-    (rest left count m : ℕ) (more : Bool) (s : Turning b ts clock word skipped stage reached next rest left count m more) where
+    (rest left : ℕ) (more : Bool) (s : Turning b ts clock word skipped stage reached next rest left more) where
   abbrev leapt : List Track
   leapt = leap_tracks skipped b.present ts
 
@@ -329,13 +324,13 @@ module _ (b : Board) (ts : List Track) (clock word skipped : ℕ) (ew : word ≡
   same = ew ∙ sym (leap-tracks-word skipped b.present ts)
 
   -- records staged so far are part of the tick's
-  pub turning-over : count ≤ length (tick_from (keys_of b.points) (infos_of b.points) (clock + 1) b.present leapt).records
+  pub turning-over : {n : ℕ} → length stage ≡ n * record_width → n ≤ length (tick_from (keys_of b.points) (infos_of b.points) (clock + 1) b.present leapt).records
   unfolding tick_from
-  turning-over =
+  turning-over el =
       let all = play_from (keys_of b.points) (infos_of b.points) (clock + 1) b.present leapt in
       omega (
         arith,
-        stepping-over b leapt clock word same stage reached _ rest left count m s.steps,
+        stepping-over b leapt clock word same stage reached _ rest left s.steps el,
         follow-adds (clock + 1) (members (follow_word b.present leapt)) all,
       )
 
@@ -344,29 +339,28 @@ module _ (b : Board) (ts : List Track) (clock word skipped : ℕ) (ew : word ≡
     unfolding leap_into
     over = ap (λ (is : List ℕ). leap_into skipped next is next) (none_left rest s.steps.small (omega (arith, s.steps.left_is)))
 
-    all-stepped : Stepping b leapt clock word stage reached next rest left count m
-    all-stepped = subst (λ (us : List Track). Stepping b leapt clock word stage reached us rest left count m) over s.steps
+    all-stepped : Stepping b leapt clock word stage reached next rest left
+    all-stepped = subst (λ (us : List Track). Stepping b leapt clock word stage reached us rest left) over s.steps
 
     -- what the commands may rely on
-    pub turning-rule : TracksRule b.present next (take m reached)
+    pub turning-rule : TracksRule b.present next reached
     turning-rule = all-stepped.rule
 
+    pub turning-commands : Room (length reached) stage
+    turning-commands =
+        omega (arith, length-log all-stepped.records, ap length all-stepped.bytes_are, all-stepped.few_records, all-stepped.few_reached)
+
     -- a command to run, or a track that plays no more
-    pub turning-more : {after : List Track} {total : ℕ} {stage' : List ℕ} {word' : ℕ} → after ≡ tracks_run (clock + 1) (take m reached) next →
-        total ≡ count + length (records_run (clock + 1) (take m reached) next) →
-        stage' ≡ write_at stage (count * record_width) (log_bytes (records_run (clock + 1) (take m reached) next)) → word' ≡ playing_word b.present after →
-        Played b leapt clock after total stage' word'
-    turning-more ea et es eq =
-        let d = stepping-done b leapt clock word same stage reached next rest left count m all-stepped h ea et es in
-        record { tracks = d.0; count = d.1; bytes = d.2; stage_long = d.3; word_is = eq }
+    pub turning-more : {after : List Track} {stage' : List ℕ} {word' : ℕ} → after ≡ tracks_run (clock + 1) reached next →
+        stage' ≡ stage ++ log_bytes (records_run (clock + 1) reached next) → word' ≡ playing_word b.present after → Played b leapt clock after stage' word'
+    turning-more ea es eq =
+        let d = stepping-done b leapt clock word same stage reached next rest left all-stepped h ea es in
+        record { tracks = d.0; bytes = d.1; word_is = eq }
 
     -- neither
-    pub turning-still : more ≡ false → {after : List Track} {total : ℕ} {stage' : List ℕ} {word' : ℕ} → after ≡ next → total ≡ count → stage' ≡ stage →
-        word' ≡ word → Played b leapt clock after total stage' word'
-    unfolding log_bytes
-    turning-still e ea et es eq =
-        let none = run_none (clock + 1) (take m reached) (staged next [] []) (s.no_command e) in
-        turning-more (ea ∙ sym (ap (λ (x : Stage). x.tracks) none))
-        (et ∙ sym (add-zero count) ∙ ap (λ (x : Stage). count + length x.records) (sym none))
-        (es ∙ sym (write-none stage (count * record_width)) ∙ ap (λ (x : Stage). write_at stage (count * record_width) (log_bytes x.records)) (sym none))
+    pub turning-still : more ≡ false → {after : List Track} {stage' : List ℕ} {word' : ℕ} → after ≡ next → stage' ≡ stage → word' ≡ word →
+        Played b leapt clock after stage' word'
+    turning-still e ea es eq =
+        let none = run_none (clock + 1) reached (staged next [] []) (s.no_command e) in
+        turning-more (ea ∙ sym (ap (λ (x : Stage). x.tracks) none)) (es ∙ staged-none stage (ap (λ (x : Stage). x.records) none))
         (eq ∙ s.same_word e ∙ ap (playing_word b.present) (sym ea))

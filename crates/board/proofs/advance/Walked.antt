@@ -19,10 +19,10 @@ use Rattle.board.specs.declared.log.Record.{Record}
 use Rattle.board.specs.Board.{no_track, track_at}
 use Rattle.board.specs.Tick.{keep, members}
 use Rattle.board.specs.Tick.{point_records, play_bit, playing_word, Stage, staged, found_by, step_records, reached_by, step_member, step_all, obeyed, run_command, run_all, play_from, follow_word, band_count, tick_from}
-use Rattle.board.specs.Points.{key, info_at, waits, target_of, track_count}
+use Rattle.board.specs.Points.{key, info_at, waits, target_of, track_count, NonzeroInfos}
 use Rattle.board.specs.Replay.{Each}
 use Rattle.board.specs.Steady.{PairLeaves}
-use Rattle.board.specs.Quiet.{Some, NonzeroInfos, stops_next, master_of, Fewest, Leapable, where_set, leap_tracks}
+use Rattle.board.specs.Quiet.{AnyOf, stops_next, master_of, Fewest, Leapable, where_set, leap_tracks}
 use Rattle.board.proofs.points.Keys.{lt-or-ge}
 use Rattle.board.proofs.tick.PlayingLaws.{bit-small}
 use Rattle.board.proofs.quiet.Players.{SomePlaying, players, members-playing, longer, some-playing}
@@ -291,7 +291,7 @@ module _ (ks ds : List ℕ) (clock present : ℕ) (ts : List Track) (l : length 
 
   module _ (h : length tick.records ≤ 0) where
     -- a tick that writes no record, and in which a playing track stops, leaves fewer playing
-    pub tick-fewer : Some (λ i. stops_next (track_at ts i) ≡ true) (plays ts)
+    pub tick-fewer : AnyOf (λ i. stops_next (track_at ts i) ≡ true) (plays ts)
         → length (plays tick.tracks) + band_count present tick.tracks < length (plays ts) + band_count present ts
     tick-fewer s =
         let f = count-fewer (omega (arith, records-are)) (some-playing Stops present ts l s) in
@@ -322,7 +322,7 @@ module _ (ks ds : List ℕ) (clock present : ℕ) (ts : List Track) (l : length 
   -- it writes a record, or leaves fewer playing or fewer bands held, or a track of a follower's pair has left its line by then
   pub walked-tick : (a : ℕ) → Fewest ks ts (members (playing_word present ts)) (members (follow_word present ts)) a r → r < a
       → (0 < length next.records) ⊎ ((busy next.tracks < busy ts)
-      ⊎ Some (λ i. PairLeaves (suc r) (track_at ts i) (master_of ts i)) (members (follow_word present ts)))
+      ⊎ AnyOf (λ i. PairLeaves (suc r) (track_at ts i) (master_of ts i)) (members (follow_word present ts)))
   walked-tick a f p =
       ⊎_elim (λ w. inl w)
       (λ e. ⊎_elim (λ (w : 0 < length next.records). inl w) (λ (w : length next.records ≤ 0). inr (quiet w e)) (lt-or-ge 0 (length next.records)))
@@ -332,10 +332,10 @@ module _ (ks ds : List ℕ) (clock present : ℕ) (ts : List Track) (l : length 
       lu = leap-tracks-long r present ts ∙ l
 
       quiet : length next.records ≤ 0
-          → Some (λ i. stops_next (track_at us i) ≡ true) (members (playing_word present ts))
+          → AnyOf (λ i. stops_next (track_at us i) ≡ true) (members (playing_word present ts))
           ⊎ ((Each (Still (play_from ks ds clock present us).tracks) (members (follow_word present ts)) → ⊥)
-          ⊎ Some (λ i. PairLeaves (suc r) (track_at ts i) (master_of ts i)) (members (follow_word present ts)))
-          → (busy next.tracks < busy ts) ⊎ Some (λ i. PairLeaves (suc r) (track_at ts i) (master_of ts i)) (members (follow_word present ts))
+          ⊎ AnyOf (λ i. PairLeaves (suc r) (track_at ts i) (master_of ts i)) (members (follow_word present ts)))
+          → (busy next.tracks < busy ts) ⊎ AnyOf (λ i. PairLeaves (suc r) (track_at ts i) (master_of ts i)) (members (follow_word present ts))
       quiet w (inl s) = inl (rw leapt-busy at (tick-fewer ks ds clock present us lu w (rw (leap-tracks-word r present ts) s)))
       quiet w (inr (inl n)) = inl (rw leapt-busy at (tick-lower ks ds clock present us lu w (rw (leap-follow-word r present ts) n)))
       quiet w (inr (inr s)) = inr s

@@ -1,6 +1,6 @@
 -- What a call gives, and how `apply` tells it.
 use Prim.Native.Nat.{ℕ, ◌<◌, ◌^◌}
-use mathlib.Core.Path.{◌≡◌, sym, ◌∙◌, ap, subst⁻¹}
+use mathlib.Core.Path.{◌≡◌, sym, ◌∙◌, subst⁻¹}
 use mathlib.Core.List.{List}
 use lib.IntN.{ℤ}
 use lib.Signed.{mag}
@@ -15,17 +15,13 @@ use Rattle.board.specs.Replay.{World}
 use Rattle.board.specs.declared.apply.Applied.{Applied}
 use Rattle.board.specs.Apply.{Says}
 
--- what is said of the variant at hand is said of the answer
-pub said : {A : Type 0} (f : A → Reply) {x y : A} {b : Board} {r : Applied} → x ≡ y → Says (f y) b r → Says (f x) b r
-said f e s = record { reply_is = s.reply_is ∙ ap f (sym e); board_is = s.board_is }
-
 -- a number that is passed on is read back from its bits
 pub passed : (z : ℤ) → mag z < 2 ^ hbits w64 → z ≡ back z
 passed z h = sym (to_z-of_z {w = w64} (record { sfits = h }))
 
 -- what the call at hand gives, told
 pub applied : (w : World Board) {c k : Call} {a : Reply} {b : Board} {log : List ℕ} {r : Applied} → c ≡ k → Gives (does k w) a b log → Says a b r →
-    Gives (does c w) (reply_of r.told r.track) r.board log
+    Gives (does c w) (reply_of r.told) r.board log
 applied w {log = log} {r = r} e g s =
-    subst⁻¹ (λ (c : Call). Gives (does c w) (reply_of r.told r.track) r.board log) e
+    subst⁻¹ (λ (c : Call). Gives (does c w) (reply_of r.told) r.board log) e
     (record { answer_is = s.reply_is ∙ g.answer_is; board_is = s.board_is ∙ g.board_is; log_is = g.log_is })

@@ -13,7 +13,7 @@ use Rattle.track.specs.Follow.{following}
 use Rattle.track.specs.Number.{natural_of}
 use Rattle.track.proofs.Tests.{both, both_is}
 use Rattle.board.specs.declared.Board.{Board}
-use Rattle.board.specs.declared.setup.Outcome.{Outcome}
+use Rattle.board.specs.Setup.{Outcome}
 use Rattle.board.specs.declared.call.Pairs.{Pairs}
 use Rattle.board.specs.declared.call.Pairs.TheVariants as pairs
 use Rattle.board.specs.Board.{track_at}

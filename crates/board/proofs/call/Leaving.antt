@@ -1,15 +1,16 @@
 -- What a call that takes no log comes to is what it gives, whatever the log.
+use Rattle.std.specs.Prelude.{Result}
+use Rattle.track.specs.declared.refusal.Refusal.{Refusal}
 use Prim.Native.Nat.{ℕ}
 use mathlib.Core.Path.{◌≡◌, refl, sym, ◌∙◌, ap}
 use mathlib.Core.List.{List}
 use lib.IntN.{ℤ}
 use Rattle.track.specs.declared.setup.Change.{Change}
+use Rattle.track.specs.declared.Track.{Track}
+use Rattle.track.specs.declared.Ticks.{Ticks}
 use Rattle.board.specs.declared.Board.{Board}
-use Rattle.board.specs.declared.setup.Outcome.{Outcome}
-use Rattle.board.specs.declared.query.ClockRead.{ClockRead}
-use Rattle.board.specs.declared.query.TrackRead.{TrackRead}
-use Rattle.board.specs.declared.query.PointRead.{PointRead}
-use Rattle.board.specs.declared.query.CountRead.{CountRead}
+use Rattle.board.specs.declared.points.Point.{Point}
+use Rattle.board.specs.Setup.{Outcome}
 use Rattle.board.specs.declared.call.Call.TheVariants as call
 use Rattle.board.specs.declared.call.Pairs.{Pairs}
 use Rattle.board.specs.Setup.{set_up, add_track, set_point, drop_point, set_master, clear_board}
@@ -58,18 +59,18 @@ module _ (b : Board) where
   unfolding run_count says_of makes_of
   clear-leaves h = outcome-gives (clear_board b) h
 
-  pub clock-leaves : {r : ClockRead} → r ≡ clock_of b → Leaves call.Clock b (clock_said r) b
+  pub clock-leaves : {r : Result (Ticks × ℕ) Refusal} → r ≡ clock_of b → Leaves call.Clock b (clock_said r) b
   unfolding run_count says_of makes_of
   clock-leaves h = query-gives (clock_said (clock_of b)) (ap clock_said h)
 
-  pub track-leaves : (i : ℤ) {r : TrackRead} → r ≡ track_of b i → Leaves (call.Track i) b (track_said r.answer r.track) b
+  pub track-leaves : (i : ℤ) {r : Result Track Refusal} → r ≡ track_of b i → Leaves (call.Track i) b (track_said r) b
   unfolding run_count says_of makes_of
-  track-leaves i h = query-gives (track_said (track_of b i).answer (track_of b i).track) (ap (λ (r : TrackRead). track_said r.answer r.track) h)
+  track-leaves i h = query-gives (track_said (track_of b i)) (ap track_said h)
 
-  pub point-leaves : (i p : ℤ) {r : PointRead} → r ≡ point_in b i p → Leaves (call.Point i p) b (point_said r) b
+  pub point-leaves : (i p : ℤ) {r : Result Point Refusal} → r ≡ point_in b i p → Leaves (call.Point i p) b (point_said r) b
   unfolding run_count says_of makes_of
   point-leaves i p h = query-gives (point_said (point_in b i p)) (ap point_said h)
 
-  pub point-count-leaves : (i from to : ℤ) {r : CountRead} → r ≡ count_in b i from to → Leaves (call.PointCount i from to) b (count_said r) b
+  pub point-count-leaves : (i from to : ℤ) {r : Result ℕ Refusal} → r ≡ count_in b i from to → Leaves (call.PointCount i from to) b (count_said r) b
   unfolding run_count says_of makes_of
   point-count-leaves i from to h = query-gives (count_said (count_in b i from to)) (ap count_said h)

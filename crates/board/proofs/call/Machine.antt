@@ -1,17 +1,18 @@
 -- The board as a machine of lists of calls: it keeps what the theory of lists asks of its rules.
+use Rattle.std.specs.Prelude.{Option, Some, None}
 use Prim.Native.Nat.{ℕ, zero, suc, ◌+◌, ◌*◌, ◌≤◌, ◌<◌}
-use mathlib.Core.Path.{◌≡◌, refl, sym, ap}
+use mathlib.Core.Path.{◌≡◌, refl, ap}
 use mathlib.Core.Bool.{Bool, true, false, cond}
 use mathlib.Core.List.{List, [], ◌∷◌, ◌++◌}
-use mathlib.Core.Option.{Option, none, some, none-ne-some}
 use native.Mathlib.Nat.{add-zero, add_assoc}
 use native.Mathlib.Omega.{arith}
 use lib.Dec.{leb}
 use lib.IntN.{ℤ}
 use lib.ListN.{length}
 use borrow.Author.Tests.{leb-true, leb-false, le-leb}
-use Rattle.track.specs.declared.grid.Decision.{Decision}
-use Rattle.track.specs.declared.grid.Decision.TheVariants as decision
+use Rattle.track.specs.declared.refusal.Refusal.{Refusal}
+use Rattle.track.specs.declared.refusal.Refusal.TheVariants as refusal
+use Rattle.track.specs.Refusal.{number_of}
 use Rattle.track.specs.declared.setup.Change.{Change}
 use Rattle.track.specs.Rule.{WAITING, clock_end, entered}
 use Rattle.track.specs.Grid.{PLAY, PAUSE, RESUME, STOP, grid_of}
@@ -19,7 +20,7 @@ use Rattle.track.proofs.Tests.{cond_cases}
 use Rattle.board.specs.Log.{record_width, record_bytes, log_bytes, capacity}
 use Rattle.board.specs.declared.Board.{Board}
 use Rattle.board.specs.declared.log.Record.{Record}
-use Rattle.board.specs.declared.setup.Outcome.{Outcome}
+use Rattle.board.specs.Setup.{Outcome}
 use Rattle.board.specs.declared.call.Call.{Call}
 use Rattle.board.specs.declared.call.Call.TheVariants as call
 use Rattle.board.specs.Board.{track_at, is_present, unbroken_test, found_in, Unbroken}
@@ -48,7 +49,7 @@ flat-is (r ∷ rs) = ap (λ (l : List ℕ). record_bytes r ++ l) (flat-is rs)
 
 -- ---- the mode calls
 
-module _ (b : Board) (n : ℕ) (P : ModeResult → Type 0) (declines : (k : ℕ) → P (declined k b)) where
+module _ (b : Board) (n : ℕ) (P : ModeResult → Type 0) (declines : (e : Refusal) → P (declined (number_of e) b)) where
   -- a mode call is refused, or takes a present track to a mode, with a record that fits
   pub result-ways :
       ((i mode : ℕ) → is_present b.present i ≡ true → mode ≤ WAITING → b.held + length (call_records b i mode) ≤ capacity n → P (changing b i mode)) →
@@ -59,12 +60,12 @@ module _ (b : Board) (n : ℕ) (P : ModeResult → Type 0) (declines : (k : ℕ)
       (λ _. cond_cases P (leb b.held (capacity n))
       (λ _. by-natural P (found_in b.present track) _ (declined 1 b)
       (λ i e. go i (found_in_lem b.present track e) (grid_of (track_at b.tracks i).mode call) (grid-goes (track_at b.tracks i).mode call))
-      (declines 1)) (λ _. declines 7)) (λ _. declines 3)
+      (declines refusal.Track)) (λ _. declines refusal.Capacity)) (λ _. declines refusal.Value)
     where
-      go : (i : ℕ) → is_present b.present i ≡ true → (d : Decision) → Goes? d → P (decided b n i d)
-      go i h (decision.Goes mode) g =
-          cond_cases P (leb (b.held + length (call_records b i mode)) (capacity n)) (λ e. does i mode h g (leb-true _ _ e)) (λ _. declines 8)
-      go i h decision.Refused g = declines 2
+      go : (i : ℕ) → is_present b.present i ≡ true → (d : Option ℕ) → Goes? d → P (decided b n i d)
+      go i h (Some mode) g =
+          cond_cases P (leb (b.held + length (call_records b i mode)) (capacity n)) (λ e. does i mode h g (leb-true _ _ e)) (λ _. declines refusal.Room)
+      go i h None g = declines refusal.Mode
 
 -- ---- records in the log
 
@@ -78,29 +79,29 @@ counts = record {
 }
 
 -- a tick that nothing stops is below the clock's end, and its records fit
-pub halt-none : (n : ℕ) (b : Board) → halt_of n b ≡ none → (b.clock.0 < clock_end) × (b.held + length (tick_of b).records ≤ capacity n)
+pub halt-none : (n : ℕ) (b : Board) → halt_of n b ≡ None → (b.clock.0 < clock_end) × (b.held + length (tick_of b).records ≤ capacity n)
 unfolding halt_of
 halt-none n b = go (leb clock_end b.clock.0) (leb (b.held + length (tick_of b).records) (capacity n)) refl refl
   where
     go : (p q : Bool) → leb clock_end b.clock.0 ≡ p → leb (b.held + length (tick_of b).records) (capacity n) ≡ q →
-        cond p (some ends) (cond q none (some fills)) ≡ none → (b.clock.0 < clock_end) × (b.held + length (tick_of b).records ≤ capacity n)
-    go true q ep eq h = absurd (none-ne-some ends (sym h))
+        cond p (Some ends) (cond q None (Some fills)) ≡ None → (b.clock.0 < clock_end) × (b.held + length (tick_of b).records ≤ capacity n)
+    go true q ep eq h = absurd (cc)
     go false true ep eq h = (leb-false _ _ ep, leb-true _ _ eq)
-    go false false ep eq h = absurd (none-ne-some fills (sym h))
+    go false false ep eq h = absurd (cc)
 
 -- an advance that nothing bars finds an unbroken board, whose held records are in the log
-pub bar-none : (n : ℕ) (b : Board) → bar_of n b ≡ none → (unbroken_test b ≡ true) × (b.held ≤ capacity n)
+pub bar-none : (n : ℕ) (b : Board) → bar_of n b ≡ None → (unbroken_test b ≡ true) × (b.held ≤ capacity n)
 unfolding bar_of
 bar-none n b = go (unbroken_test b) (leb b.held (capacity n)) refl refl
   where
     go : (p q : Bool) → unbroken_test b ≡ p → leb b.held (capacity n) ≡ q →
-        cond {A = Option ℕ} p (cond {A = Option ℕ} q none (some 7)) (some 3) ≡ none → (unbroken_test b ≡ true) × (b.held ≤ capacity n)
+        cond {A = Option ℕ} p (cond {A = Option ℕ} q None (Some 7)) (Some 3) ≡ None → (unbroken_test b ≡ true) × (b.held ≤ capacity n)
     go true true ep eq h = (ep, leb-true _ _ eq)
-    go true false ep eq h = absurd (none-ne-some 7 (sym h))
-    go false q ep eq h = absurd (none-ne-some 3 (sym h))
+    go true false ep eq h = absurd (cc)
+    go false q ep eq h = absurd (cc)
 
 -- a tick that is taken brings no bar
-pub kept : (n : ℕ) (b : Board) → bar_of n b ≡ none → halt_of n b ≡ none → bar_of n (grown_by (ticked b) (length (tick_of b).records)) ≡ none
+pub kept : (n : ℕ) (b : Board) → bar_of n b ≡ None → halt_of n b ≡ None → bar_of n (grown_by (ticked b) (length (tick_of b).records)) ≡ None
 unfolding bar_of
 kept n b g h =
     let u = tick-keeps b (b.held + length (tick_of b).records) (bar-none n b g).0 (halt-none n b h).0 in
@@ -211,11 +212,11 @@ read = record {
 }
   where
     taken_done : (t : ℕ) (o : Option Stop) → taken_in (stopped_by t o) ≡ t
-    taken_done t none = refl
-    taken_done t (some ends) = refl
-    taken_done t (some fills) = refl
+    taken_done t None = refl
+    taken_done t (Some ends) = refl
+    taken_done t (Some fills) = refl
 
-    why_some : (t : ℕ) (e : Stop) → why_not (stopped_by t (some e)) ≡ some (stopped e)
+    why_some : (t : ℕ) (e : Stop) → why_not (stopped_by t (Some e)) ≡ Some (stopped e)
     why_some t ends = refl
     why_some t fills = refl
 
@@ -272,10 +273,10 @@ ticks-whole (suc n) w h = go (w-halt gridstep w) refl (ticks-whole n (w-step gri
     go : (o : Option Stop) → w-halt gridstep w ≡ o →
         (Unbroken (w-step gridstep w).board → Unbroken (ticks (w-halt gridstep) (w-step gridstep) n (w-step gridstep w)).end.board) →
         Unbroken (ticks (w-halt gridstep) (w-step gridstep) (suc n) w).end.board
-    go none e more =
+    go None e more =
         rw (ticks-on (w-halt gridstep) (w-step gridstep) n w e)
         (more (tick-whole w.board h _ (halt-none (length w.log) w.board e).0))
-    go (some x) e more = rw (ticks-off (w-halt gridstep) (w-step gridstep) n w x e) h
+    go (Some x) e more = rw (ticks-off (w-halt gridstep) (w-step gridstep) n w x e) h
 
 -- no call makes a broken board
 pub call-whole : (p : Part Call) (w : World Board) → Unbroken w.board → Unbroken (perform gridstep p w).left.board
@@ -283,5 +284,5 @@ call-whole (one c) w h = made-whole w.board h _ c (length w.log)
 call-whole (run n) w h = go (w-bar gridstep w) refl
   where
     go : (o : Option ℕ) → w-bar gridstep w ≡ o → Unbroken (perform gridstep (run n) w).left.board
-    go none e = rw (advance-in (w-halt gridstep) (w-step gridstep) (w-bar gridstep) stopped_by refused n w e) (ticks-whole n w h)
-    go (some k) e = rw (advance-out (w-halt gridstep) (w-step gridstep) (w-bar gridstep) stopped_by refused n w k e) h
+    go None e = rw (advance-in (w-halt gridstep) (w-step gridstep) (w-bar gridstep) stopped_by refused n w e) (ticks-whole n w h)
+    go (Some k) e = rw (advance-out (w-halt gridstep) (w-step gridstep) (w-bar gridstep) stopped_by refused n w k e) h

@@ -1,17 +1,17 @@
 -- A refused call leaves board and log equal, whichever call it is.
+use Rattle.std.specs.Prelude.{Option, Some, None}
 use Prim.Native.Nat.{ℕ}
 use mathlib.Core.Path.{◌≡◌, refl, ◌∙◌, ap}
-use mathlib.Core.Option.{Option, none, some}
 use native.Mathlib.Omega.{arith}
 use lib.IntN.{ℤ}
 use lib.ListN.{length, set}
 use lib.Seq.{set-get_or}
 use Rattle.track.specs.declared.Track.{Track}
-use Rattle.track.specs.declared.setup.Answer.{Answer}
-use Rattle.track.specs.declared.setup.Answer.TheVariants as answer
+use Rattle.track.specs.Refusal.{Answer}
+use Rattle.track.specs.Refusal as answer
 use Rattle.track.specs.Grid.{PLAY, PAUSE, RESUME, STOP}
 use Rattle.board.specs.declared.Board.{Board}
-use Rattle.board.specs.declared.setup.Outcome.{Outcome}
+use Rattle.board.specs.Setup.{Outcome}
 use Rattle.board.specs.declared.call.Call.{Call}
 use Rattle.board.specs.declared.call.Call.TheVariants as call
 use Rattle.board.specs.Board.{track_at}
@@ -77,9 +77,9 @@ module _ (w : World Board) (k : ℕ) where
 
   -- what stopped an advance, if anything did, is no refusal
   never-refused : (t : ℕ) (o : Option Stop) → stopped_by t o ≡ refused k → ⊥
-  never-refused t none e = let z : ◌≡◌ {A = ℕ} 0 1 = cc in omega arith
-  never-refused t (some ends) e = let z : ◌≡◌ {A = ℕ} 0 1 = cc in omega arith
-  never-refused t (some fills) e = let z : ◌≡◌ {A = ℕ} 0 1 = cc in omega arith
+  never-refused t None e = let z : ◌≡◌ {A = ℕ} 0 1 = cc in omega arith
+  never-refused t (Some ends) e = let z : ◌≡◌ {A = ℕ} 0 1 = cc in omega arith
+  never-refused t (Some fills) e = let z : ◌≡◌ {A = ℕ} 0 1 = cc in omega arith
 
   -- and these
   part-equal : (p : Part Call) → (perform gridstep p w).answer ≡ refused k → (perform gridstep p w).left ≡ w
@@ -87,10 +87,10 @@ module _ (w : World Board) (k : ℕ) where
   part-equal (run n) = go (w-bar gridstep w) refl
     where
       go : (o : Option ℕ) → w-bar gridstep w ≡ o → (perform gridstep (run n) w).answer ≡ refused k → (perform gridstep (run n) w).left ≡ w
-      go none e h =
+      go None e h =
           let t = ticks (w-halt gridstep) (w-step gridstep) n w in
           absurd (never-refused t.taken t.why (rw (advance-in (w-halt gridstep) (w-step gridstep) (w-bar gridstep) stopped_by refused n w e) at h))
-      go (some x) e h = rw (advance-out (w-halt gridstep) (w-step gridstep) (w-bar gridstep) stopped_by refused n w x e)
+      go (Some x) e h = rw (advance-out (w-halt gridstep) (w-step gridstep) (w-bar gridstep) stopped_by refused n w x e)
 
 -- a refused call leaves all equal: the board and every log byte
 pub refused-equal : (c : Call) (w : World Board) (n : ℕ) → (does c w).answer ≡ refused n → (does c w).left ≡ w

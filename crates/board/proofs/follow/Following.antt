@@ -18,10 +18,9 @@ use Rattle.board.specs.Points.{track_count}
 use Rattle.board.specs.Replay.{Each}
 use Rattle.board.specs.Board.{no_track, track_at, is_present}
 use Rattle.board.specs.Tick.{members, record_of, playing_word, Stage, staged}
-use Rattle.board.specs.Tick.{follow_bit, follow_word, band_records, follow_member, follow_all, band_bit, band_count}
+use Rattle.board.specs.Tick.{word_by, follow_bit, follow_word, band_records, follow_member, follow_all, band_bit, band_count}
 use Rattle.board.proofs.rules.Broken.{present-bit, half-bit}
 use Rattle.board.proofs.tick.Bits.{each_from}
-use Rattle.board.proofs.tick.PlayingLaws.{WordBy}
 use Rattle.board.proofs.tick.Commands.{at_set}
 
 -- ---- one follower
@@ -208,19 +207,14 @@ module _ (clock present : ℕ) (is : List ℕ) (s : Stage) where
 -- ---- the word of the followers
 
 -- a track's bit
-pub follow-bit-yes : (bit : ℕ) (t : Track) → (get_or t.thresholds 0 0 ≡ 0 → ⊥) → bit ≡ follow_bit bit t
-follow-bit-yes bit t n = simp (ne_eqb _ _ n)
-
-pub follow-bit-no : (bit : ℕ) (t : Track) → get_or t.thresholds 0 0 ≡ 0 → 0 ≡ follow_bit bit t
-follow-bit-no bit t e = simp (eq-eqb _ _ e)
-
 pub follow-bit-small : (bit : ℕ) (t : Track) → bit ≤ 1 → follow_bit bit t ≤ 1
 follow-bit-small bit t h = cond_cases (λ (n : ℕ). n ≤ 1) (follows t) (λ e. h) (λ e. omega arith)
 
--- the word of the followers is a word of tracks
-pub follow-word-by : WordBy follow_bit follow_word
-unfolding follow_word
-follow-word-by = record { small = follow-bit-small; none = λ w. refl; more = λ w t ts. refl }
+-- the word of the followers is that of the test whether a track follows another
+pub following-by : (present : ℕ) (ts : List Track) → word_by follows present ts ≡ follow_word present ts
+unfolding word_by follow_word
+following-by present [] = refl
+following-by present (t ∷ ts) = ap (λ (w : ℕ). follow_bit (present % 2) t + w * 2) (following-by (present / 2) ts)
 
 -- ---- the followers are present, and follow
 

@@ -1,30 +1,28 @@
 -- The loop over the followers of a tick: the ways out of one follower's judging, and the turns over all of them.
 use mathlib.Core.Path.{◌≡◌, refl, sym, ap, subst, ◌∙◌}
 use mathlib.Core.Bool.{Bool, true, false, cond, ◌&&◌}
-use mathlib.Core.List.{List, [], ◌∷◌}
-use Prim.Native.Nat.{ℕ, zero, suc, ◌+◌, ◌-◌, ◌*◌, ◌≤◌}
+use mathlib.Core.List.{List, [], ◌∷◌, ◌++◌}
+use Prim.Native.Nat.{ℕ, zero, suc, ◌≤◌}
 use native.Mathlib.Omega.{arith}
-use native.Mathlib.Nat.{add-zero}
 use lib.Dec.{eqb, leb, ltb}
-use lib.ListN.{length, set, get_or, length-append, length-set}
+use lib.ListN.{length, set, get_or, length-set}
 use borrow.Author.Tests.{eqb-true, leb-true}
 use Rattle.track.specs.declared.Track.{Track}
 use Rattle.track.specs.Rule.{Valid, threshold_most, event_most}
-use Rattle.track.specs.Follow.{up_to_zero, judged, banded, zeros_test, pairs_test}
+use Rattle.track.specs.Follow.{up_to_zero, banded, zeros_test, pairs_test}
 use Rattle.track.proofs.Tests.{both}
 use Rattle.board.specs.declared.log.Record.{Record}
-use Rattle.board.specs.declared.follow.Band.{Band}
 use Rattle.board.specs.Points.{track_count}
-use Rattle.board.specs.Log.{write_at, record_bytes, log_bytes, record_width}
+use Rattle.board.specs.Log.{log_bytes}
 use Rattle.board.specs.Replay.{Each}
 use Rattle.board.specs.Board.{track_at}
-use Rattle.board.specs.Tick.{members, record_of, band_records, follow_all, FollowRule, FollowRules}
+use Rattle.board.specs.Tick.{Room, members, follow_all, FollowRule, FollowRules}
 use Rattle.board.proofs.replay.Kinds.{each-follows}
-use Rattle.board.proofs.tick.Staging.{write-none, written_none, written_one, written-more, written-long}
+use Rattle.board.proofs.tick.Staging.{staged-none, staged-more, staged-long}
 use Rattle.board.proofs.tick.Commands.{at_set}
 use Rattle.board.proofs.tick.Steps.{members-most}
-use Rattle.board.proofs.follow.Following.{band_at, banded_in, entered_by, band-same, band-none, band-one, band-most, banded-valid}
-use Rattle.board.proofs.follow.Following.{followed_from, followed-tracks, followed-records, follow-most}
+use Rattle.board.proofs.follow.Following.{band_at, banded_in, entered_by, band-most, banded-valid}
+use Rattle.board.proofs.follow.Following.{followed_from, followed-tracks, followed-records}
 
 -- ---- the rules of a follower
 
@@ -63,33 +61,6 @@ pairs-event lo (x ∷ xs) (e ∷ es) h j = go (eqb x 0) h j (λ q. pairs-event x
         let d = both (leb e event_most) rest c.1 in
         event-at e es (leb-true e event_most d.0) (ih d.1) j
 
--- ---- the ways out of `judge_band`
-
-module _ (clock i : ℕ) (t m : Track) (xs : List ℕ) (n : ℕ) where
-  -- a band, the number of records and the stage are what judging comes to
-  abbrev pub Judges : List ℕ → Band → Type 0
-  Judges ys r =
-      (r ≡ record { band = judged t m; count = n + length (band_records clock i t (judged t m)) })
-      × (ys ≡ write_at xs (n * record_width) (log_bytes (band_records clock i t (judged t m))))
-
-  module _ (k : ℕ) (e : k ≡ judged t m) where
-    none_out : band_records clock i t (judged t m) ≡ [] → Judges xs (record { band = k; count = n })
-    none_out q = let w = written_none xs n q in (λ j. record { band = e j; count = w.0 j }, w.1)
-
-    pub judge-same : k ≡ t.band → Judges xs (record { band = k; count = n })
-    judge-same q = none_out (band-same clock i t (judged t m) (sym e ∙ q))
-
-    pub judge-none : k ≡ 0 → Judges xs (record { band = k; count = n })
-    judge-none q = none_out (band-none clock i t (judged t m) (sym e ∙ q))
-
-    pub judge-one : {ys : List ℕ} → (k ≡ t.band → ⊥) → (k ≡ 0 → ⊥)
-        → ys ≡ write_at xs (n * record_width) (record_bytes (record_of clock i 4 (get_or t.events (k - 1) 0) t.master t.position.0 t.passes.0))
-        → Judges ys (record { band = k; count = n + 1 })
-    judge-one b z q =
-        let o = ap (band_records clock i t) (sym e) ∙ band-one clock i t k b z in
-        let w = written_one xs n _ o q in
-        (λ j. record { band = e j; count = w.0 j }, w.1)
-
 -- ---- the rules of the followers are kept
 
 -- judging a track keeps what a follower's judging relies on
@@ -119,37 +90,30 @@ rules-banded ts k is = each-follows (rule-banded ts k) is
 -- ---- the turns of the loop over the followers
 
 -- Before a turn: the followers left come from here to what all of them come to from the start.
-pub record Judging (clock : ℕ) (is₀ : List ℕ) (ts₀ : List Track) (xs₀ : List ℕ) (n : ℕ) (ts : List Track) (xs : List ℕ) (k : ℕ) (is : List ℕ)
-    : Type 0 where
+pub record Judging (clock : ℕ) (is₀ : List ℕ) (ts₀ : List Track) (xs₀ : List ℕ) (ts : List Track) (xs : List ℕ) (is : List ℕ) : Type 0 where
   pub rules : FollowRules ts is
   pub long : length ts ≡ track_count
-  pub room : (k + length is) * record_width ≤ length xs
-  pub stage : length xs ≡ length xs₀
+  pub room : Room (length is) xs
   pub tracks : (followed_from clock is ts).tracks ≡ (followed_from clock is₀ ts₀).tracks
-  pub count : k + length (followed_from clock is ts).records ≡ n + length (followed_from clock is₀ ts₀).records
-  pub bytes : write_at xs (k * record_width) (log_bytes (followed_from clock is ts).records)
-      ≡ write_at xs₀ (n * record_width) (log_bytes (followed_from clock is₀ ts₀).records)
+  pub bytes : xs ++ log_bytes (followed_from clock is ts).records ≡ xs₀ ++ log_bytes (followed_from clock is₀ ts₀).records
 
 -- at first
-pub judging-start : (clock led : ℕ) (ts : List Track) (xs : List ℕ) (n : ℕ) → FollowRules ts (members led) → length ts ≡ track_count
-    → (n + track_count) * record_width ≤ length xs → Judging clock (members led) ts xs n ts xs n (members led)
-judging-start clock led ts xs n r l h =
-    let m = members-most track_count 0 led in
-    record { rules = r; long = l; room = omega arith; stage = refl; tracks = refl; count = refl; bytes = refl }
+pub judging-start : (clock led : ℕ) (ts : List Track) (xs : List ℕ) → FollowRules ts (members led) → length ts ≡ track_count
+    → Room track_count xs → Judging clock (members led) ts xs ts xs (members led)
+judging-start clock led ts xs r l h =
+    let m = members-most track_count 0 led in record { rules = r; long = l; room = omega arith; tracks = refl; bytes = refl }
 
-module _ (clock : ℕ) (is₀ : List ℕ) (ts₀ : List Track) (xs₀ : List ℕ) (n : ℕ) (ts : List Track) (xs : List ℕ) (k : ℕ) where
+module _ (clock : ℕ) (is₀ : List ℕ) (ts₀ : List Track) (xs₀ : List ℕ) (ts : List Track) (xs : List ℕ) where
   -- at the end
-  pub judging-end : {is : List ℕ} → Judging clock is₀ ts₀ xs₀ n ts xs k is → is ≡ [] →
-      (ts ≡ (followed_from clock is₀ ts₀).tracks) × ((k ≡ n + length (followed_from clock is₀ ts₀).records)
-      × (xs ≡ write_at xs₀ (n * record_width) (log_bytes (followed_from clock is₀ ts₀).records)))
-  unfolding follow_all log_bytes
+  pub judging-end : {is : List ℕ} → Judging clock is₀ ts₀ xs₀ ts xs is → is ≡ [] →
+      (ts ≡ (followed_from clock is₀ ts₀).tracks) × (xs ≡ xs₀ ++ log_bytes (followed_from clock is₀ ts₀).records)
+  unfolding follow_all
   judging-end {is} j e =
-      let t = subst (Judging clock is₀ ts₀ xs₀ n ts xs k) e j in
-      (t.tracks, (sym (add-zero k) ∙ t.count, sym (write-none xs (k * record_width)) ∙ t.bytes))
+      let t = subst (Judging clock is₀ ts₀ xs₀ ts xs) e j in (t.tracks, staged-none xs refl ∙ t.bytes)
 
-  module _ {is : List ℕ} (j : Judging clock is₀ ts₀ xs₀ n ts xs k is) (i : ℕ) (rest : List ℕ) (e : is ≡ i ∷ rest) where
-    t : Judging clock is₀ ts₀ xs₀ n ts xs k (i ∷ rest)
-    t = subst (Judging clock is₀ ts₀ xs₀ n ts xs k) e j
+  module _ {is : List ℕ} (j : Judging clock is₀ ts₀ xs₀ ts xs is) (i : ℕ) (rest : List ℕ) (e : is ≡ i ∷ rest) where
+    t : Judging clock is₀ ts₀ xs₀ ts xs (i ∷ rest)
+    t = subst (Judging clock is₀ ts₀ xs₀ ts xs) e j
 
     -- the follower of a turn can be judged
     pub judging-rule : FollowRule (track_at ts i) (track_at ts (track_at ts i).master)
@@ -157,32 +121,24 @@ module _ (clock : ℕ) (is₀ : List ℕ) (ts₀ : List Track) (xs₀ : List ℕ
     judging-rule = t.rules.0
 
     -- and there is room for its record
-    pub judging-room : k * record_width + record_width ≤ length xs
+    pub judging-room : Room 1 xs
     judging-room = omega (arith, t.room)
 
     -- after a turn
-    pub judging-turn : (ys : List ℕ) (r : Band) → Judges clock i (track_at ts i) (track_at ts (track_at ts i).master) xs k ys r
-        → Judging clock is₀ ts₀ xs₀ n (set ts i (banded (track_at ts i) r.band)) ys r.count rest
+    pub judging-turn : {ys : List ℕ} {k : ℕ} → k ≡ band_at i ts → ys ≡ xs ++ log_bytes (entered_by clock i ts)
+        → Judging clock is₀ ts₀ xs₀ (set ts i (banded (track_at ts i) k)) ys rest
     unfolding Each
-    judging-turn ys r o =
+    judging-turn {ys} {k} ek es =
         let os = entered_by clock i ts in
         let us = banded_in i ts in
-        let after = (followed_from clock rest us).records in
-        let et : set ts i (banded (track_at ts i) r.band) ≡ us = ap (λ (r : Band). set ts i (banded (track_at ts i) r.band)) o.0 in
-        let ek : r.count ≡ k + length os = ap (λ (r : Band). r.count) o.0 in
+        let et : set ts i (banded (track_at ts i) k) ≡ us = ap (λ (k : ℕ). set ts i (banded (track_at ts i) k)) ek in
         let er = followed-records clock i rest ts in
-        let la : length (followed_from clock (i ∷ rest) ts).records ≡ length os + length after = ap length er ∙ length-append os after in
         let most = band-most clock i (track_at ts i) (band_at i ts) in
-        let left = follow-most clock rest us in
-        let ly : length ys ≡ length xs = written-long xs k os (ek, o.1) (omega (arith, t.room)) in
-        let w = written-more xs k os after (ek, o.1) (refl, refl) (omega (arith, t.room)) in
         record {
           rules = subst (λ (us : List Track). FollowRules us rest) (sym et) (rules-banded ts i rest t.rules.1);
-          long = length-set ts i (banded (track_at ts i) r.band) ∙ t.long;
-          room = omega (arith, t.room);
-          stage = ly ∙ t.stage;
+          long = length-set ts i (banded (track_at ts i) k) ∙ t.long;
+          room = omega (arith, t.room, most, staged-long xs os es);
           tracks = ap (λ (us : List Track). (followed_from clock rest us).tracks) et ∙ sym (followed-tracks clock i rest ts) ∙ t.tracks;
-          count = ap (λ (us : List Track). r.count + length (followed_from clock rest us).records) et ∙ omega (arith, t.count);
-          bytes = ap (λ (us : List Track). write_at ys (r.count * record_width) (log_bytes (followed_from clock rest us).records)) et
-              ∙ w.1 ∙ ap (λ (rs : List Record). write_at xs (k * record_width) (log_bytes rs)) (sym er) ∙ t.bytes;
+          bytes = ap (λ (us : List Track). ys ++ log_bytes (followed_from clock rest us).records) et
+              ∙ staged-more xs os (followed_from clock rest us).records es refl ∙ ap (λ (rs : List Record). xs ++ log_bytes rs) (sym er) ∙ t.bytes;
         }

@@ -1,29 +1,26 @@
 -- The row of numbers of every answer tells it, since a track that is told has its sixteen cells, its four thresholds and their events.
+use Rattle.std.specs.Prelude.{Result, Ok, Err}
+use Rattle.track.specs.declared.refusal.Refusal.{Refusal}
+use Rattle.track.specs.declared.refusal.Refusal.TheVariants as refusal
+use Rattle.track.specs.declared.Track.{Track}
 use mathlib.Core.Path.{◌≡◌, subst, refl}
 use lib.IntN.{ℤ}
 use lib.ListN.{length}
-use Rattle.track.specs.declared.setup.Answer.{Answer}
-use Rattle.track.specs.declared.setup.Answer.TheVariants as answer
+use Rattle.track.specs.Refusal.{Answer}
+use Rattle.track.specs.Refusal as answer
 use Rattle.track.specs.Grid.{PLAY, PAUSE, RESUME, STOP}
 use Rattle.track.proofs.Tests.{cond_cases}
 use Rattle.board.specs.declared.Board.{Board}
-use Rattle.board.specs.declared.query.ClockRead.{ClockRead}
-use Rattle.board.specs.declared.query.ClockRead.TheVariants as clock
-use Rattle.board.specs.declared.query.TrackRead.{TrackRead}
-use Rattle.board.specs.declared.query.PointRead.{PointRead}
-use Rattle.board.specs.declared.query.PointRead.TheVariants as point
-use Rattle.board.specs.declared.query.CountRead.{CountRead}
-use Rattle.board.specs.declared.query.CountRead.TheVariants as count
 use Rattle.board.specs.declared.call.Advanced.{Advanced}
 use Rattle.board.specs.declared.call.Advanced.TheVariants as advanced
 use Rattle.board.specs.declared.call.Call.{Call}
 use Rattle.board.specs.declared.call.Call.TheVariants as call
 use Rattle.board.specs.Board.{unbroken_test, found_in}
 use Rattle.board.specs.Setup.{set_up, add_track, set_point, drop_point, set_master, clear_board}
-use Rattle.board.specs.Query.{clock_of, track_of, point_in, count_in, none_read}
+use Rattle.board.specs.Query.{clock_of, track_of, point_in, count_in}
 use Rattle.board.specs.Mode.{mode_result}
 use Rattle.board.specs.Replay.{World}
-use Rattle.board.specs.Call.{answered, clock_said, track_said, point_said, count_said, advanced_said}
+use Rattle.board.specs.Call.{Reply, said_by, answered, track_said, advanced_said}
 use Rattle.board.specs.Call.{pair_numbers, says_of, run_count, does}
 use Rattle.board.specs.Row.{numbers_of}
 use Rattle.board.proofs.rules.Present.{found_in_lem}
@@ -36,17 +33,9 @@ said-told : (a : Answer) → Told (answered a)
 said-told answer.Accepted = tt
 said-told (answer.Refused n) = tt
 
-clock-told : (r : ClockRead) → Told (clock_said r)
-clock-told (clock.Clock c held) = tt
-clock-told (clock.Refused n) = tt
-
-point-told : (r : PointRead) → Told (point_said r)
-point-told (point.Found p) = (p, refl)
-point-told (point.Refused n) = tt
-
-count-told : (r : CountRead) → Told (count_said r)
-count-told (count.Count n) = tt
-count-told (count.Refused n) = tt
+said-by-told : {A : Type 0} (f : A → Reply) → ((x : A) → Told (f x)) → (r : Result A Refusal) → Told (said_by f r)
+said-by-told f h (Ok x) = h x
+said-by-told f h (Err e) = tt
 
 advance-told : (a : Advanced) → Told (advanced_said a)
 advance-told (advanced.Done n) = tt
@@ -55,19 +44,19 @@ advance-told (advanced.ClockEnd n) = tt
 advance-told (advanced.Refused n) = tt
 
 -- of a board that is not broken every track present has its cells, its thresholds and their events
-track-told : (b : Board) (i : ℤ) → Told (track_said (track_of b i).answer (track_of b i).track)
+track-told : (b : Board) (i : ℤ) → Told (track_said (track_of b i))
 unfolding track_of
 track-told b i =
     cond_cases P (unbroken_test b)
-    (λ h. by-natural P (found_in b.present i) _ (none_read 1)
+    (λ h. by-natural P (found_in b.present i) _ (Err refusal.Track)
     (λ j e.
     let here = found_in_lem b.present i e in
     let f = (unbroken-of b h).followers j here in
     (_, refl, (((unbroken-of b h).tracks j here).valid.cells.number, f.thresholds, f.events))) tt)
     (λ _. tt)
   where
-    P : TrackRead → Type 0
-    P r = Told (track_said r.answer r.track)
+    P : Result Track Refusal → Type 0
+    P r = Told (track_said r)
 
 told : (c : Call) (w : World Board) → Told (does c w).answer
 unfolding run_count says_of
@@ -81,10 +70,10 @@ told (call.Resume i) w = said-told (mode_result w.board (length w.log) i RESUME)
 told (call.Stop i) w = said-told (mode_result w.board (length w.log) i STOP).answer
 told (call.Advance n) w = subst Told (advance-said n w).is (advance-told (advance-said n w).told)
 told call.Clear w = said-told (clear_board w.board).answer
-told call.Clock w = clock-told (clock_of w.board)
+told call.Clock w = said-by-told _ (λ _. tt) (clock_of w.board)
 told (call.Track i) w = track-told w.board i
-told (call.Point i p) w = point-told (point_in w.board i p)
-told (call.PointCount i from to) w = count-told (count_in w.board i from to)
+told (call.Point i p) w = said-by-told _ (λ p. (p, refl)) (point_in w.board i p)
+told (call.PointCount i from to) w = said-by-told _ (λ _. tt) (count_in w.board i from to)
 told (call.Master i m ps) w = said-told (set_master w.board i m (pair_numbers ps)).answer
 
 -- the row of a call's answer says that answer

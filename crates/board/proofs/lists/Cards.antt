@@ -1,4 +1,5 @@
 -- 01's bench cards A to L and its traps, computed from the rule that the contracts of all calls cite.
+use Rattle.std.specs.Prelude.{Some}
 use Prim.Native.Nat.{ℕ, zero, suc, ◌+◌}
 use native.Mathlib.Omega.{arith}
 use mathlib.Core.Path.{◌≡◌, refl, sym, ap, ◌∙◌}
@@ -6,8 +7,7 @@ use mathlib.Core.Bool.{true, false}
 use mathlib.Core.List.{List, [], ◌∷◌, ◌++◌}
 use lib.IntN.{ℤ, pos}
 use lib.ListN.{replicate, take}
-use Rattle.track.specs.declared.number.Natural.TheVariants as natural
-use Rattle.track.specs.declared.setup.Answer.TheVariants.{Accepted}
+use Rattle.track.specs.Refusal.{Accepted}
 use Rattle.track.specs.declared.setup.Change.TheVariants as change
 use Rattle.track.specs.Rule.{PLAYING, PAUSED, WAITING, VISITED}
 use Rattle.track.specs.Number.{value_of}
@@ -17,7 +17,6 @@ use Rattle.board.specs.declared.call.Call.{Call}
 use Rattle.board.specs.declared.call.Call.TheVariants as call
 use Rattle.board.specs.declared.points.Point.{Point}
 use Rattle.board.specs.declared.log.Record.{Record}
-use Rattle.board.specs.declared.setup.Described.TheVariants as described
 use Rattle.board.specs.Log.{log_bytes}
 use Rattle.board.specs.Points.{keys_of, key_of, info_of, has_key, stored_in}
 use Rattle.board.specs.Board.{track_at, fresh_board, found_in, Unbroken}
@@ -264,8 +263,8 @@ traps =
 -- ---- L for any board: a call whose numbers describe the point p
 
 module _ (b : Board) (w : Unbroken b) (track position event wait command target : ℤ) (i : ℕ) (p : Point)
-    (found : found_in b.present track ≡ natural.In i) (free : settled (track_at b.tracks i).mode ≡ true)
-    (good : described_by b.present i (track_at b.tracks i) position event wait command target ≡ described.Good p) where
+    (found : found_in b.present track ≡ Some i) (free : settled (track_at b.tracks i).mode ≡ true)
+    (good : described_by b.present i (track_at b.tracks i) position event wait command target ≡ Some p) where
   stores : set_point b track position event wait command target ≡ put_points b 5 (stored_in b.points (key_of p) (info_of p))
   unfolding set_point
   stores = simp (unbroken-is b w, found, free, good)

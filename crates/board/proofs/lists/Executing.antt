@@ -1,7 +1,7 @@
 -- The laws of rows done one after the other.
+use Rattle.std.specs.Prelude.{Option, Some, None}
 use mathlib.Core.Path.{◌≡◌, refl, sym, ap, subst, ◌∙◌}
 use mathlib.Core.List.{List, [], ◌∷◌, ◌++◌, append_assoc, append-nil}
-use mathlib.Core.Option.{Option, none, some}
 use Prim.Native.Nat.{ℕ, zero, suc, ◌+◌, ◌*◌, ◌≤◌}
 use native.Mathlib.Numerals.{add-one}
 use native.Mathlib.Omega.{arith}
@@ -35,8 +35,8 @@ rows-calls : (os : List (Option Call)) (w : World Board) →
     rows_do os w ≡ record { answers = answers_to os p.answers; last = p.last }
 unfolding row_does
 rows-calls [] w = refl
-rows-calls (none ∷ os) w = ap (ahead (refused 9)) (rows-calls os w)
-rows-calls (some c ∷ os) w = ap (ahead (does c w).answer) (rows-calls os (does c w).left)
+rows-calls (None ∷ os) w = ap (ahead (refused 9)) (rows-calls os w)
+rows-calls (Some c ∷ os) w = ap (ahead (does c w).answer) (rows-calls os (does c w).left)
 
 -- and to the replay of those
 pub rows-replayed : (os : List (Option Call)) (log : List ℕ) →

@@ -1,4 +1,5 @@
 -- Turning on the home location (02, 2.3), on a board: the call, the resume behind it, and what the next tick writes.
+use Rattle.std.specs.Prelude.{Some}
 use Prim.Native.Nat.{ℕ, ◌+◌, ◌≤◌, ◌<◌}
 use mathlib.Core.Logic.{inl, inr}
 use mathlib.Core.Path.{◌≡◌, refl, sym, ap, ◌∙◌, subst}
@@ -16,13 +17,12 @@ use Rattle.track.specs.Leap.{added, moves, played}
 use Rattle.track.specs.Setup.{turned}
 use Rattle.track.specs.Grid.{RESUME, grid_of}
 use Rattle.track.specs.declared.setup.Change.TheVariants as change
-use Rattle.track.specs.declared.setup.Changed.{Changed}
-use Rattle.track.specs.declared.number.Natural.TheVariants as natural
+use Rattle.track.specs.Setup.{Changed}
 use Rattle.track.specs.Flip.{resumed, Closing}
 use Rattle.track.proofs.Flips.{resumed-is, turned-closes, closing-arrival, closing-passes}
 use Rattle.board.specs.declared.Board.{Board}
 use Rattle.board.specs.declared.log.Record.{Record}
-use Rattle.board.specs.declared.setup.Outcome.{Outcome}
+use Rattle.board.specs.Setup.{Outcome}
 use Rattle.board.specs.Points.{key, keys_of, infos_of, info_at, waits, track_count}
 use Rattle.board.specs.Board.{track_at, no_track, found_in, Unbroken}
 use Rattle.board.specs.Setup.{board_with, set_up}
@@ -30,7 +30,7 @@ use Rattle.board.specs.Setup as outcome
 use Rattle.board.specs.Log.{capacity}
 use Rattle.board.specs.Mode.{ModeResult, call_records, changing, mode_result}
 use Rattle.board.specs.Arrivals.{arrival_at, arrival_next, arrivals_of, arrival_record, is_point}
-use Rattle.board.specs.Quiet.{Some}
+use Rattle.board.specs.Quiet.{AnyOf}
 use Rattle.board.specs.Tick.{members, playing_word, point_records, change_records, step_records, tick_of}
 use Rattle.board.specs.Steady.{straight_steps}
 use Rattle.board.specs.Replay.{only}
@@ -90,9 +90,9 @@ abbrev pub Among : List Record → List Record → Type 0
 Among xs ys = (before : List Record) × (behind : List Record) × (ys ≡ before ++ (xs ++ behind))
 
 -- the reports of a tick hold that of each member's arrival
-among-arrivals : (b : Board) (i : ℕ) (is : List ℕ) → Some (λ j. j ≡ i) is →
+among-arrivals : (b : Board) (i : ℕ) (is : List ℕ) → AnyOf (λ j. j ≡ i) is →
     Among (map (arrival_record b) (arrival_next b i)) (map (arrival_record b) (arrivals_of b is))
-unfolding Some arrivals_of
+unfolding AnyOf arrivals_of
 among-arrivals b i [] x = elim x [ ]
 among-arrivals b i (j ∷ is) (inl e) = (
   [],
@@ -110,7 +110,7 @@ among-arrivals b i (j ∷ is) (inr s) =
           ∙ sym (append_assoc first h.0 (map (arrival_record b) (arrival_next b i) ++ h.1)),
     )
 
-module _ (b : Board) (w : Unbroken b) (track : ℤ) (i k : ℕ) (found : found_in b.present track ≡ natural.In i) (c : Closing (track_at b.tracks i) k) where
+module _ (b : Board) (w : Unbroken b) (track : ℤ) (i k : ℕ) (found : found_in b.present track ≡ Some i) (c : Closing (track_at b.tracks i) k) where
   inside : i < length b.tracks
   inside = let s = present-small b.present i (found_in_lem b.present track found) in omega (arith, w.shape.tracks)
 
@@ -134,7 +134,7 @@ module _ (b : Board) (w : Unbroken b) (track : ℤ) (i k : ℕ) (found : found_i
     unfolding left
     turned-is = sym e ∙ ap (λ (o : Outcome). o.board) turned-call
 
-    here : found_in u.present track ≡ natural.In i
+    here : found_in u.present track ≡ Some i
     here = ap (λ (x : Board). found_in x.present track) turned-is ∙ found
 
     track-is : track_at u.tracks i ≡ left

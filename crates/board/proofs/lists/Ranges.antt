@@ -1,4 +1,5 @@
 -- Every record of the row has its fields in their ranges, and so is that record when it is unpacked from its bytes.
+use Rattle.std.specs.Prelude.{Option, Some, None}
 use Prim.Native.Nat.{ℕ, suc, ◌+◌, ◌-◌, ◌*◌, ◌≤◌, ◌<◌}
 use mathlib.Core.Path.{◌≡◌, refl, sym, ◌∙◌, subst}
 use mathlib.Core.Bool.{true, ◌||◌}
@@ -10,8 +11,6 @@ use lib.Seq.{get_or-set_other}
 use borrow.Author.Tests.{eqb-false, le-leb}
 use Rattle.track.specs.declared.Track.{Track}
 use Rattle.track.specs.declared.Ticks.{Ticks}
-use Rattle.track.specs.declared.grid.Decision.{Decision}
-use Rattle.track.specs.declared.grid.Decision.TheVariants as decision
 use Rattle.track.specs.Rule.{PLAYING, WAITING, far, coordinate_last, clock_end, action_cell, Valid, Sound, event_most}
 use Rattle.track.specs.Follow.{banded}
 use Rattle.track.specs.Grid.{PLAY, PAUSE, RESUME, STOP, grid_of}
@@ -113,10 +112,10 @@ module _ (clock : ℕ) (c : clock ≤ clock_end) where
       cond_cases (Each Ranged) (eqb (command_of d) 0) (λ _. tt)
       (λ e. ruled (sound (eqb-false (command_of d) 0 e)) (grid_of t.mode (command_of d)) (grid-goes t.mode (command_of d)))
     where
-      ruled : Sound t (record { 0 = clock }) → (x : Decision) → Goes? x → Each Ranged (command_records clock d t x)
-      ruled s (decision.Goes m) g =
+      ruled : Sound t (record { 0 = clock }) → (x : Option ℕ) → Goes? x → Each Ranged (command_records clock d t x)
+      ruled s (Some m) g =
           change-ranged (target_of d) t m t.position.0 t.passes.0 r.target s.valid g (omega (arith, s.valid.ordered)) (omega (arith, s.passes))
-      ruled s decision.Refused g = (
+      ruled s None g = (
         record {
           clock = c;
           track = r.target;

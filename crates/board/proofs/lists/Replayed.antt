@@ -1,42 +1,44 @@
 -- Demand 3: for every list of calls from a fresh board, what the functions' own contracts say of it is the replay's.
+use Rattle.std.specs.Prelude.{Result}
+use Rattle.track.specs.declared.refusal.Refusal.{Refusal}
+use Rattle.std.specs.Prelude.{Option, Some, None}
 use mathlib.Core.Path.{◌≡◌, refl, sym, ◌∙◌, ap, subst}
 use mathlib.Core.List.{List, [], ◌∷◌, ◌++◌}
-use mathlib.Core.Option.{Option, none, some}
 use Prim.Native.Nat.{ℕ, ◌≤◌, zero-le}
 use lib.IntN.{ℤ}
 use lib.ListN.{length, length-map}
 use contract.Lifetimes.{Lfts}
 use denote.Ref.{Bor, MutBor}
-use Rattle.track.specs.declared.setup.Answer.{Answer}
+use Rattle.track.specs.declared.refusal.Refusal.TheVariants as refusal
+use Rattle.track.specs.Refusal.{number_of}
 use Rattle.track.specs.Grid.{PLAY, PAUSE, RESUME, STOP}
 use Rattle.track.proofs.Numbers.{natural-of}
 use Rattle.board.specs.declared.Board.{Board}
 use Rattle.board.specs.declared.log.Record.{Record}
-use Rattle.board.specs.declared.setup.Outcome.{Outcome}
-use Rattle.board.specs.declared.query.ClockRead.{ClockRead}
-use Rattle.board.specs.declared.query.TrackRead.{TrackRead}
-use Rattle.board.specs.declared.query.PointRead.{PointRead}
-use Rattle.board.specs.declared.query.CountRead.{CountRead}
+use Rattle.track.specs.declared.Track.{Track}
+use Rattle.track.specs.declared.Ticks.{Ticks}
+use Rattle.board.specs.declared.points.Point.{Point}
 use Rattle.board.specs.declared.advance.Progress.{Progress}
 use Rattle.board.specs.declared.call.Advanced.{Advanced}
 use Rattle.board.specs.declared.call.Advanced.TheVariants as advanced
 use Rattle.board.specs.declared.call.Call.{Call}
 use Rattle.board.specs.declared.call.Call.TheVariants as call
 use Rattle.board.specs.Board.{fresh_board, Unbroken}
-use Rattle.board.specs.Setup.{set_up, add_track, set_point, drop_point, set_master, clear_board}
+use Rattle.board.specs.Setup.{Outcome, outcome}
 use Rattle.board.specs.Query.{clock_of, track_of, point_in, count_in}
-use Rattle.board.specs.Mode.{mode_result}
+use Rattle.board.specs.Mode.{ModeResult, mode_result}
 use Rattle.board.specs.Cut.{Ran, ticks, Did, All, run, sorted, part, performs, Recut, observe}
-use Rattle.board.specs.Replay.{World, State, perform, w-bar, w-halt, w-step, replay, r-bar, r-halt, r-step, written, writtens, flat}
+use Rattle.board.specs.Replay.{World, State, wrote, perform, w-bar, w-halt, w-step, replay, r-bar, r-halt, r-step, written, writtens, flat}
 use Rattle.board.specs.Replay.{shown, only, gathered, ticked, total}
 use Rattle.board.specs.Call.{Reply, refused, answered, clock_said, track_said, point_said, count_said, advanced_said, Stop, ends, fills, stopped_by}
-use Rattle.board.specs.Call.{taken_in, why_not, bar_of, barred, pair_numbers, says_of, makes_of, gridstep, most, run_count, advance_by, does}
+use Rattle.board.specs.Call.{taken_in, why_not, bar_of, barred, pair_numbers, says_of, makes_of, made_by, gridstep, most, run_count, advance_by, does}
 use Rattle.board.specs.Call.{world, Gives}
 use Rattle.board.specs.Lists.{cut_up, start, replayed}
 use Rattle.board.specs.Arrivals.{arrivals_in, arrival_record, arrival_records, is_point}
 use Rattle.board.proofs.replay.Cuts.{recut, cut, advance-add, advance-in, advance-out}
 use Rattle.board.proofs.replay.Replays.{shown-takes, w_kept, agrees, rows, cuts}
 use Rattle.board.proofs.replay.Kinds.{kinds, gathered-length, total-same}
+use Rattle.board.proofs.call.Given.{Given, counted, Bars, bars, set-up-given, add-track-given, set-point-given, drop-point-given, set-master-given, clear-given, mode-given}
 use Rattle.board.proofs.call.Machine.{counts, room, kept, read, call-whole}
 use Rattle.board.proofs.call.Enough.{SameMaster, pairs_of, pairs-enough}
 use Rattle.board.proofs.lists.Reports.{tick-points, call-points}
@@ -64,58 +66,62 @@ use Rattle.board.proofs.Board.point_count.Reads as point-count-says
 abbrev pub Left : Reply → Board → List ℕ → Reply → World Board → Type 0
 Left said b log a v = (a ≡ said) × (v ≡ world b log)
 
+-- so does the result of a call on a board: the board that it gives, or the board as it was
+abbrev pub LeftAs : Result Board Refusal → Board → List ℕ → Reply → World Board → Type 0
+LeftAs r b log a v = Left (answered (outcome b r).answer) (outcome b r).board log a v
+
 -- A call, as its function's contract has it: the function is lent the board and, where it takes one, the log, and leaves them.
 -- `Learnt` is what its `ensures` tells a caller, of the lifetimes, the arguments, the result and the arguments at exit. A master call
 -- is lent any numbers with which it comes to the same as with its own.
 abbrev pub Step : Call → World Board → Reply → World Board → Type 0
 Step (call.AddTrack i lo hi) w a v =
-    (r : Outcome) × add-track-says.Learnt tt (w.board, (i, (lo, (hi, tt)))) r (w.board, (i, (lo, (hi, tt)))) × Left (answered r.answer) r.board w.log a v
+    (r : Result Board Refusal) × add-track-says.Learnt tt (w.board, (i, (lo, (hi, tt)))) r (w.board, (i, (lo, (hi, tt)))) × LeftAs r w.board w.log a v
 Step (call.SetUp i c) w a v =
-    (r : Outcome) × set-up-says.Learnt tt (w.board, (i, (c, tt))) r (w.board, (i, (c, tt))) × Left (answered r.answer) r.board w.log a v
+    (r : Result Board Refusal) × set-up-says.Learnt tt (w.board, (i, (c, tt))) r (w.board, (i, (c, tt))) × LeftAs r w.board w.log a v
 Step (call.SetPoint i p e f c g) w a v =
-    (r : Outcome)
+    (r : Result Board Refusal)
     × set-point-says.Learnt tt (w.board, (i, (p, (e, (f, (c, (g, tt))))))) r (w.board, (i, (p, (e, (f, (c, (g, tt)))))))
-    × Left (answered r.answer) r.board w.log a v
+    × LeftAs r w.board w.log a v
 Step (call.DropPoint i p) w a v =
-    (r : Outcome) × drop-point-says.Learnt tt (w.board, (i, (p, tt))) r (w.board, (i, (p, tt))) × Left (answered r.answer) r.board w.log a v
+    (r : Result Board Refusal) × drop-point-says.Learnt tt (w.board, (i, (p, tt))) r (w.board, (i, (p, tt))) × LeftAs r w.board w.log a v
 Step (call.Play i) w a v =
-    (κs : Lfts 1) × (x : MutBor (List ℕ)) × (y : MutBor (List ℕ)) × (r : Outcome)
+    (κs : Lfts 1) × (x : MutBor (List ℕ)) × (y : MutBor (List ℕ)) × (r : Result Board Refusal)
     × play-says.Learnt κs (w.board, (i, (x, tt))) r (w.board, (i, (y, tt)))
-    × (x.now ≡ w.log) × Left (answered r.answer) r.board y.now a v
+    × (x.now ≡ w.log) × LeftAs r w.board y.now a v
 Step (call.Pause i) w a v =
-    (κs : Lfts 1) × (x : MutBor (List ℕ)) × (y : MutBor (List ℕ)) × (r : Outcome)
+    (κs : Lfts 1) × (x : MutBor (List ℕ)) × (y : MutBor (List ℕ)) × (r : Result Board Refusal)
     × pause-says.Learnt κs (w.board, (i, (x, tt))) r (w.board, (i, (y, tt)))
-    × (x.now ≡ w.log) × Left (answered r.answer) r.board y.now a v
+    × (x.now ≡ w.log) × LeftAs r w.board y.now a v
 Step (call.Resume i) w a v =
-    (κs : Lfts 1) × (x : MutBor (List ℕ)) × (y : MutBor (List ℕ)) × (r : Outcome)
+    (κs : Lfts 1) × (x : MutBor (List ℕ)) × (y : MutBor (List ℕ)) × (r : Result Board Refusal)
     × resume-says.Learnt κs (w.board, (i, (x, tt))) r (w.board, (i, (y, tt)))
-    × (x.now ≡ w.log) × Left (answered r.answer) r.board y.now a v
+    × (x.now ≡ w.log) × LeftAs r w.board y.now a v
 Step (call.Stop i) w a v =
-    (κs : Lfts 1) × (x : MutBor (List ℕ)) × (y : MutBor (List ℕ)) × (r : Outcome)
+    (κs : Lfts 1) × (x : MutBor (List ℕ)) × (y : MutBor (List ℕ)) × (r : Result Board Refusal)
     × stop-says.Learnt κs (w.board, (i, (x, tt))) r (w.board, (i, (y, tt)))
-    × (x.now ≡ w.log) × Left (answered r.answer) r.board y.now a v
+    × (x.now ≡ w.log) × LeftAs r w.board y.now a v
 Step (call.Advance n) w a v =
     (κs : Lfts 1) × (x : MutBor (List ℕ)) × (y : MutBor (List ℕ)) × (r : Progress)
     × advance-says.Learnt κs (w.board, (n, (x, tt))) r (w.board, (n, (y, tt)))
     × (x.now ≡ w.log) × Left (advanced_said r.answer) r.board y.now a v
-Step call.Clear w a v = (r : Outcome) × clear-says.Learnt tt (w.board, tt) r (w.board, tt) × Left (answered r.answer) r.board w.log a v
-Step call.Clock w a v = (r : ClockRead) × clock-says.Learnt tt (w.board, tt) r (w.board, tt) × Left (clock_said r) w.board w.log a v
+Step call.Clear w a v = (r : Result Board Refusal) × clear-says.Learnt tt (w.board, tt) r (w.board, tt) × LeftAs r w.board w.log a v
+Step call.Clock w a v = (r : Result (Ticks × ℕ) Refusal) × clock-says.Learnt tt (w.board, tt) r (w.board, tt) × Left (clock_said r) w.board w.log a v
 Step (call.Track i) w a v =
-    (r : TrackRead) × track-says.Learnt tt (w.board, (i, tt)) r (w.board, (i, tt)) × Left (track_said r.answer r.track) w.board w.log a v
+    (r : Result Track Refusal) × track-says.Learnt tt (w.board, (i, tt)) r (w.board, (i, tt)) × Left (track_said r) w.board w.log a v
 Step (call.Point i p) w a v =
-    (r : PointRead) × point-says.Learnt tt (w.board, (i, (p, tt))) r (w.board, (i, (p, tt))) × Left (point_said r) w.board w.log a v
+    (r : Result Point Refusal) × point-says.Learnt tt (w.board, (i, (p, tt))) r (w.board, (i, (p, tt))) × Left (point_said r) w.board w.log a v
 Step (call.PointCount i from to) w a v =
-    (r : CountRead) × point-count-says.Learnt tt (w.board, (i, (from, (to, tt)))) r (w.board, (i, (from, (to, tt))))
+    (r : Result ℕ Refusal) × point-count-says.Learnt tt (w.board, (i, (from, (to, tt)))) r (w.board, (i, (from, (to, tt))))
     × Left (count_said r) w.board w.log a v
 Step (call.Master i m ps) w a v =
-    (κs : Lfts 1) × (x : Bor (List ℤ)) × (y : Bor (List ℤ)) × (r : Outcome)
+    (κs : Lfts 1) × (x : Bor (List ℤ)) × (y : Bor (List ℤ)) × (r : Result Board Refusal)
     × set-master-says.Learnt κs (w.board, (i, (m, (x, tt)))) r (w.board, (i, (m, (y, tt))))
-    × SameMaster x.now (pair_numbers ps) × Left (answered r.answer) r.board w.log a v
+    × SameMaster x.now (pair_numbers ps) × LeftAs r w.board w.log a v
 
 -- So every call of set_master is a step, whatever the numbers of its slice: however many, an odd number of them, out of range.
-pub every-master : (κs : Lfts 1) (track master : ℤ) (zs : List ℤ) (w : World Board) (x y : Bor (List ℤ)) (r : Outcome) → x.now ≡ zs →
+pub every-master : (κs : Lfts 1) (track master : ℤ) (zs : List ℤ) (w : World Board) (x y : Bor (List ℤ)) (r : Result Board Refusal) → x.now ≡ zs →
     set-master-says.Learnt κs (w.board, (track, (master, (x, tt)))) r (w.board, (track, (master, (y, tt)))) →
-    Step (call.Master track master (pairs_of zs)) w (answered r.answer) (world r.board w.log)
+    Step (call.Master track master (pairs_of zs)) w (answered (outcome w.board r).answer) (world (outcome w.board r).board w.log)
 every-master κs track master zs w x y r e h =
     (κs, x, y, r, h, subst (λ (ys : List ℤ). SameMaster ys (pair_numbers (pairs_of zs))) (sym e) (pairs-enough zs), (refl, refl))
 
@@ -136,10 +142,10 @@ step_is (call.AddTrack i lo hi) w s = gives-is (s.1 w.log) s.2
 step_is (call.SetUp i c) w s = gives-is (s.1 w.log) s.2
 step_is (call.SetPoint i p e f c g) w s = gives-is (s.1 w.log) s.2
 step_is (call.DropPoint i p) w s = gives-is (s.1 w.log) s.2
-step_is (call.Play i) w s = lent_is (call.Play i) w s.1 s.2 s.3.board s.4 s.5 s.6
-step_is (call.Pause i) w s = lent_is (call.Pause i) w s.1 s.2 s.3.board s.4 s.5 s.6
-step_is (call.Resume i) w s = lent_is (call.Resume i) w s.1 s.2 s.3.board s.4 s.5 s.6
-step_is (call.Stop i) w s = lent_is (call.Stop i) w s.1 s.2 s.3.board s.4 s.5 s.6
+step_is (call.Play i) w s = lent_is (call.Play i) w s.1 s.2 (outcome w.board s.3).board s.4 s.5 s.6
+step_is (call.Pause i) w s = lent_is (call.Pause i) w s.1 s.2 (outcome w.board s.3).board s.4 s.5 s.6
+step_is (call.Resume i) w s = lent_is (call.Resume i) w s.1 s.2 (outcome w.board s.3).board s.4 s.5 s.6
+step_is (call.Stop i) w s = lent_is (call.Stop i) w s.1 s.2 (outcome w.board s.3).board s.4 s.5 s.6
 step_is (call.Advance n) w s = lent_is (call.Advance n) w s.1 s.2 s.3.board s.4 s.5 s.6
 step_is call.Clear w s = gives-is (s.1 w.log) s.2
 step_is call.Clock w s = gives-is (s.1 w.log) s.2
@@ -172,7 +178,7 @@ trace-written (then {c = c} {w = w} s t) = rw (step_is c w s, trace-written t)
 
 -- ---- the cut
 
-count-advance : (n : ℕ) → n ≤ most → run_count (advance_by n) ≡ some n
+count-advance : (n : ℕ) → n ≤ most → run_count (advance_by n) ≡ Some n
 unfolding run_count
 count-advance n h = rw (natural-of n 0 most zero-le h)
 
@@ -187,7 +193,7 @@ recuts {cs} {ds} {w} r s t =
     (rw (trace-is s, trace-is t) at c.0, rw (trace-is s, trace-is t) at c.1)
 
 -- the replay's bar, after a tick that it takes
-r-kept : (s : State Board Record) → r-bar gridstep s ≡ none → r-halt gridstep s ≡ none → r-bar gridstep (r-step gridstep s) ≡ none
+r-kept : (s : State Board Record) → r-bar gridstep s ≡ None → r-halt gridstep s ≡ None → r-bar gridstep (r-step gridstep s) ≡ None
 r-kept s h e =
     ap (w-bar gridstep) (sym (shown-takes gridstep counts (gridstep.tick s.board) s)) ∙ w_kept gridstep read kept (shown gridstep s) h e
 
@@ -257,15 +263,22 @@ gives_left : {d : Did Reply (World Board)} {said : Reply} {b : Board} {l : List 
 gives_left g = (sym g.answer_is, λ i. world (sym g.board_is i) (sym g.log_is i))
 
 -- a mode call's function can answer and leave what the call does
-mode-met : (κs : Lfts 1) (c : Call) (w : World Board) (a : Answer) → answered a ≡ (does c w).answer
-    → (κs : Lfts 1) × (x : MutBor (List ℕ)) × (y : MutBor (List ℕ)) × (r : Outcome)
-    × Gives (does c (world w.board x.now)) (answered r.answer) r.board y.now
-    × (x.now ≡ w.log) × Left (answered r.answer) r.board y.now (does c w).answer (does c w).left
+mode-met : (κs : Lfts 1) (c : Call) (w : World Board) (m : ModeResult) → Given w.board (counted w m) → answered m.answer ≡ (does c w).answer
+    → (wrote gridstep (made_by m) w).board ≡ (does c w).left.board
+    → (κs : Lfts 1) × (x : MutBor (List ℕ)) × (y : MutBor (List ℕ)) × (r : Result Board Refusal)
+    × Gives (does c (world w.board x.now)) (answered (outcome w.board r).answer) (outcome w.board r).board y.now
+    × (x.now ≡ w.log) × LeftAs r w.board y.now (does c w).answer (does c w).left
 unfolding lends
-mode-met κs c w a e =
+mode-met κs c w m k e f =
     let d = does c w in
-    let g : Gives d (answered a) d.left.board d.left.log = record { answer_is = e; board_is = refl; log_is = refl } in
-    (κs, lends w.log, lends d.left.log, record { answer = a; board = d.left.board }, g, refl, gives_left g)
+    let o = outcome w.board k.result in
+    let g : Gives d (answered o.answer) o.board d.left.log =
+    record {
+      answer_is = ap (λ (o : Outcome). answered o.answer) k.is ∙ e;
+      board_is = ap (λ (o : Outcome). o.board) k.is ∙ f;
+      log_is = refl;
+    } in
+    (κs, lends w.log, lends d.left.log, k.result, g, refl, gives_left g)
 
 -- what an advance answers is an answer that its function can give
 pub record Said (a : Reply) : Type 0 where
@@ -273,12 +286,15 @@ pub record Said (a : Reply) : Type 0 where
   pub is : advanced_said told ≡ a
 
 ticks-said : (t : ℕ) (o : Option Stop) → Said (stopped_by t o)
-ticks-said t none = record { told = advanced.Done (record { 0 = t }); is = refl }
-ticks-said t (some ends) = record { told = advanced.ClockEnd (record { 0 = t }); is = refl }
-ticks-said t (some fills) = record { told = advanced.LogFull (record { 0 = t }); is = refl }
+ticks-said t None = record { told = advanced.Done (record { 0 = t }); is = refl }
+ticks-said t (Some ends) = record { told = advanced.ClockEnd (record { 0 = t }); is = refl }
+ticks-said t (Some fills) = record { told = advanced.LogFull (record { 0 = t }); is = refl }
 
-refusal-said : (k : ℕ) → Said (refused k)
-refusal-said k = record { told = advanced.Refused k; is = refl }
+refusal-said : (e : Refusal) → Said (refused (number_of e))
+refusal-said e = record { told = advanced.Refused e; is = refl }
+
+barred-said : {k : ℕ} → Bars k → Said (refused k)
+barred-said r = subst (λ (k : ℕ). Said (refused k)) r.is (refusal-said r.refusal)
 
 pub advance-said : (n : ℤ) (w : World Board) → Said (does (call.Advance n) w).answer
 unfolding says_of
@@ -288,42 +304,43 @@ advance-said n w = go (run_count (call.Advance n))
     went k = ticks (w-halt gridstep) (w-step gridstep) k w
 
     runs : (k : ℕ) (o : Option ℕ) → w-bar gridstep w ≡ o → Said (perform gridstep (run k) w).answer
-    runs k none e = rw (advance-in (w-halt gridstep) (w-step gridstep) (w-bar gridstep) stopped_by refused k w e) (ticks-said (went k).taken (went k).why)
-    runs k (some m) e = rw (advance-out (w-halt gridstep) (w-step gridstep) (w-bar gridstep) stopped_by refused k w m e) (refusal-said m)
+    runs k None e = rw (advance-in (w-halt gridstep) (w-step gridstep) (w-bar gridstep) stopped_by refused k w e) (ticks-said (went k).taken (went k).why)
+    runs k (Some m) e = rw (advance-out (w-halt gridstep) (w-step gridstep) (w-bar gridstep) stopped_by refused k w m e) (barred-said (bars (length w.log) w.board e))
 
-    bars : (o : Option ℕ) → Said (barred o)
-    bars none = refusal-said 3
-    bars (some k) = refusal-said k
+    outside : (o : Option ℕ) → bar_of (length w.log) w.board ≡ o → Said (barred o)
+    outside None e = refusal-said refusal.Value
+    outside (Some k) e = barred-said (bars (length w.log) w.board e)
 
     go : (o : Option ℕ) → Said (perform gridstep (sorted most run_count advance_by (call.Advance n) o) w).answer
-    go none = bars (bar_of (length w.log) w.board)
-    go (some k) = runs k (w-bar gridstep w) refl
+    go None = outside (bar_of (length w.log) w.board) refl
+    go (Some k) = runs k (w-bar gridstep w) refl
 
 numbered : List ℤ → Bor (List ℤ)
 numbered l = record { ref_ptr = (0, 0); now = l }
 
 step-met : (κs : Lfts 1) (c : Call) (w : World Board) → Step c w (does c w).answer (does c w).left
 unfolding run_count says_of makes_of lends numbered
-step-met κs (call.AddTrack i lo hi) w = let l = add-track-leaves w.board i lo hi refl in (add_track w.board i lo hi, l, gives_left (l w.log))
-step-met κs (call.SetUp i c) w = let l = set-up-leaves w.board i c refl in (set_up w.board i c, l, gives_left (l w.log))
-step-met κs (call.SetPoint i p e f c g) w = let l = set-point-leaves w.board i p e f c g refl in (set_point w.board i p e f c g, l, gives_left (l w.log))
-step-met κs (call.DropPoint i p) w = let l = drop-point-leaves w.board i p refl in (drop_point w.board i p, l, gives_left (l w.log))
-step-met κs (call.Play i) w = mode-met κs (call.Play i) w (mode_result w.board (length w.log) i PLAY).answer refl
-step-met κs (call.Pause i) w = mode-met κs (call.Pause i) w (mode_result w.board (length w.log) i PAUSE).answer refl
-step-met κs (call.Resume i) w = mode-met κs (call.Resume i) w (mode_result w.board (length w.log) i RESUME).answer refl
-step-met κs (call.Stop i) w = mode-met κs (call.Stop i) w (mode_result w.board (length w.log) i STOP).answer refl
+step-met κs (call.AddTrack i lo hi) w = let k = add-track-given w.board i lo hi in let l = add-track-leaves w.board i lo hi k.is in (k.result, l, gives_left (l w.log))
+step-met κs (call.SetUp i c) w = let k = set-up-given w.board i c in let l = set-up-leaves w.board i c k.is in (k.result, l, gives_left (l w.log))
+step-met κs (call.SetPoint i p e f c g) w = let k = set-point-given w.board i p e f c g in let l = set-point-leaves w.board i p e f c g k.is in (k.result, l, gives_left (l w.log))
+step-met κs (call.DropPoint i p) w = let k = drop-point-given w.board i p in let l = drop-point-leaves w.board i p k.is in (k.result, l, gives_left (l w.log))
+step-met κs (call.Play i) w = mode-met κs (call.Play i) w (mode_result w.board (length w.log) i PLAY) (mode-given w i PLAY) refl refl
+step-met κs (call.Pause i) w = mode-met κs (call.Pause i) w (mode_result w.board (length w.log) i PAUSE) (mode-given w i PAUSE) refl refl
+step-met κs (call.Resume i) w = mode-met κs (call.Resume i) w (mode_result w.board (length w.log) i RESUME) (mode-given w i RESUME) refl refl
+step-met κs (call.Stop i) w = mode-met κs (call.Stop i) w (mode_result w.board (length w.log) i STOP) (mode-given w i STOP) refl refl
 step-met κs (call.Advance n) w =
     let d = does (call.Advance n) w in
     let s = advance-said n w in
     let g : Gives d (advanced_said s.told) d.left.board d.left.log = record { answer_is = s.is; board_is = refl; log_is = refl } in
     (κs, lends w.log, lends d.left.log, record { answer = s.told; board = d.left.board }, g, refl, gives_left g)
-step-met κs call.Clear w = let l = clear-leaves w.board refl in (clear_board w.board, l, gives_left (l w.log))
+step-met κs call.Clear w = let k = clear-given w.board in let l = clear-leaves w.board k.is in (k.result, l, gives_left (l w.log))
 step-met κs call.Clock w = let l = clock-leaves w.board refl in (clock_of w.board, l, gives_left (l w.log))
 step-met κs (call.Track i) w = let l = track-leaves w.board i refl in (track_of w.board i, l, gives_left (l w.log))
 step-met κs (call.Point i p) w = let l = point-leaves w.board i p refl in (point_in w.board i p, l, gives_left (l w.log))
 step-met κs (call.Master i m ps) w =
-    let l = set-master-leaves w.board i m ps refl in
-    (κs, numbered (pair_numbers ps), numbered (pair_numbers ps), set_master w.board i m (pair_numbers ps), refl, λ b t k. refl, gives_left (l w.log))
+    let k = set-master-given w.board i m (pair_numbers ps) in
+    let l = set-master-leaves w.board i m ps k.is in
+    (κs, numbered (pair_numbers ps), numbered (pair_numbers ps), k.result, k.is, λ b t k. refl, gives_left (l w.log))
 step-met κs (call.PointCount i from to) w = let l = point-count-leaves w.board i from to refl in (count_in w.board i from to, l, gives_left (l w.log))
 
 -- what any function promises to give for a call is a step of it

@@ -1,4 +1,5 @@
 -- The records of kind 1: a tick writes one for each arrival and no other, and no other call writes one.
+use Rattle.std.specs.Prelude.{Option, Some, None}
 use Prim.Native.Nat.{ℕ, suc, ◌+◌, ◌≤◌}
 use mathlib.Core.Path.{◌≡◌, refl, sym, ◌∙◌, ap}
 use mathlib.Core.Bool.{Bool, true, false, cond, ◌||◌}
@@ -8,8 +9,6 @@ use lib.Dec.{eqb}
 use lib.IntN.{ℤ}
 use lib.Seq.{get_or-set_other}
 use Rattle.track.specs.declared.Track.{Track}
-use Rattle.track.specs.declared.grid.Decision.{Decision}
-use Rattle.track.specs.declared.grid.Decision.TheVariants as decision
 use Rattle.track.specs.Rule.{action_cell}
 use Rattle.track.specs.Grid.{PLAY, PAUSE, RESUME, STOP, grid_of}
 use Rattle.track.specs.Walk.{arrival, passes_at}
@@ -49,9 +48,9 @@ unfolding command_records
 obeyed-none clock d t =
     cond_cases (λ (rs : List Record). only is_point rs ≡ []) (eqb (command_of d) 0) (λ _. refl) (λ _. ruled (grid_of t.mode (command_of d)))
   where
-    ruled : (r : Decision) → only is_point (command_records clock d t r) ≡ []
-    ruled (decision.Goes m) = change-none clock (target_of d) t m t.position.0 t.passes.0
-    ruled decision.Refused = refl
+    ruled : (r : Option ℕ) → only is_point (command_records clock d t r) ≡ []
+    ruled (Some m) = change-none clock (target_of d) t m t.position.0 t.passes.0
+    ruled None = refl
 
 commands-none : (clock : ℕ) (ds : List ℕ) (ts : List Track) → only is_point (records_run clock ds ts) ≡ []
 unfolding run_all

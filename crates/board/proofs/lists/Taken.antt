@@ -1,24 +1,19 @@
 -- The ticks taken that answers carry are the growth of the clock, of one call and of a list of calls.
+use Rattle.std.specs.Prelude.{Result, Ok, Err}
+use Rattle.track.specs.declared.refusal.Refusal.{Refusal}
+use Rattle.std.specs.Prelude.{Option, Some, None}
 use Prim.Native.Nat.{ℕ, zero, suc, ◌+◌, ◌-◌, ◌≤◌}
 use mathlib.Core.Path.{◌≡◌, refl, sym, ◌∙◌}
 use mathlib.Core.List.{List, [], ◌∷◌}
-use mathlib.Core.Option.{Option, none, some}
 use native.Mathlib.Nat.{add-zero, zero-add}
 use native.Mathlib.Omega.{arith}
 use lib.IntN.{ℤ}
 use lib.ListN.{length}
-use Rattle.track.specs.declared.setup.Answer.{Answer}
-use Rattle.track.specs.declared.setup.Answer.TheVariants as answer
+use Rattle.track.specs.Refusal.{Answer}
+use Rattle.track.specs.Refusal as answer
 use Rattle.track.specs.Grid.{PLAY, PAUSE, RESUME, STOP}
 use Rattle.board.specs.declared.Board.{Board}
-use Rattle.board.specs.declared.setup.Outcome.{Outcome}
-use Rattle.board.specs.declared.query.ClockRead.{ClockRead}
-use Rattle.board.specs.declared.query.ClockRead.TheVariants as clock
-use Rattle.board.specs.declared.query.TrackRead.{TrackRead}
-use Rattle.board.specs.declared.query.PointRead.{PointRead}
-use Rattle.board.specs.declared.query.PointRead.TheVariants as point
-use Rattle.board.specs.declared.query.CountRead.{CountRead}
-use Rattle.board.specs.declared.query.CountRead.TheVariants as count
+use Rattle.board.specs.Setup.{Outcome}
 use Rattle.board.specs.declared.call.Call.{Call}
 use Rattle.board.specs.declared.call.Call.TheVariants as call
 use Rattle.board.specs.Board.{fresh_board}
@@ -27,7 +22,7 @@ use Rattle.board.specs.Query.{clock_of, track_of, point_in, count_in}
 use Rattle.board.specs.Mode.{ModeResult, mode_result}
 use Rattle.board.specs.Cut.{Ran, ticks, Part, run, one, part, performs}
 use Rattle.board.specs.Replay.{World, w-halt, w-bar, w-step, perform, total}
-use Rattle.board.specs.Call.{Reply, refused, answered, clock_said, track_said, point_said, count_said, Stop, stopped_by, taken_in, bar_of, barred, pair_numbers, says_of}
+use Rattle.board.specs.Call.{said_by, Reply, refused, answered, Stop, stopped_by, taken_in, bar_of, barred, pair_numbers, says_of}
 use Rattle.board.specs.Call.{makes_of, gridstep, most, run_count, advance_by, does, world}
 use Rattle.board.specs.Lists.{cut_up}
 use Rattle.board.proofs.setup.Ways.{set-up-ways, add-track-ways, set-point-ways, drop-point-ways, set-master-ways, clear-ways}
@@ -41,28 +36,13 @@ taken-answered : (a : Answer) → taken_in (answered a) ≡ 0
 taken-answered answer.Accepted = refl
 taken-answered (answer.Refused n) = refl
 
-taken-clock : (r : ClockRead) → taken_in (clock_said r) ≡ 0
-taken-clock (clock.Clock c held) = refl
-taken-clock (clock.Refused n) = refl
-
-taken-track : (r : TrackRead) → taken_in (track_said r.answer r.track) ≡ 0
-taken-track r = go r.answer
-  where
-    go : (a : Answer) → taken_in (track_said a r.track) ≡ 0
-    go answer.Accepted = refl
-    go (answer.Refused n) = refl
-
-taken-point : (r : PointRead) → taken_in (point_said r) ≡ 0
-taken-point (point.Found p) = refl
-taken-point (point.Refused n) = refl
-
-taken-count : (r : CountRead) → taken_in (count_said r) ≡ 0
-taken-count (count.Count n) = refl
-taken-count (count.Refused n) = refl
+taken-said : {A : Type 0} (f : A → Reply) → ((x : A) → taken_in (f x) ≡ 0) → (r : Result A Refusal) → taken_in (said_by f r) ≡ 0
+taken-said f h (Ok x) = h x
+taken-said f h (Err e) = refl
 
 taken-barred : (o : Option ℕ) → taken_in (barred o) ≡ 0
-taken-barred none = refl
-taken-barred (some k) = refl
+taken-barred None = refl
+taken-barred (Some k) = refl
 
 -- the answer of none of them carries ticks taken
 no-ticks : (c : Call) (n : ℕ) (b : Board) → taken_in (says_of c n b) ≡ 0
@@ -77,10 +57,10 @@ no-ticks (call.Resume i) n b = taken-answered (mode_result b n i RESUME).answer
 no-ticks (call.Stop i) n b = taken-answered (mode_result b n i STOP).answer
 no-ticks (call.Advance k) n b = taken-barred (bar_of n b)
 no-ticks call.Clear n b = taken-answered (clear_board b).answer
-no-ticks call.Clock n b = taken-clock (clock_of b)
-no-ticks (call.Track i) n b = taken-track (track_of b i)
-no-ticks (call.Point i p) n b = taken-point (point_in b i p)
-no-ticks (call.PointCount i from to) n b = taken-count (count_in b i from to)
+no-ticks call.Clock n b = taken-said _ (λ _. refl) (clock_of b)
+no-ticks (call.Track i) n b = taken-said _ (λ _. refl) (track_of b i)
+no-ticks (call.Point i p) n b = taken-said _ (λ _. refl) (point_in b i p)
+no-ticks (call.PointCount i from to) n b = taken-said _ (λ _. refl) (count_in b i from to)
 no-ticks (call.Master i m ps) n b = taken-answered (set_master b i m (pair_numbers ps)).answer
 
 module _ (n : ℕ) (b : Board) where
@@ -127,8 +107,8 @@ ticks-clock (suc n) w = go (w-halt gridstep w) refl (ticks-clock n (w-step grids
     go : (o : Option Stop) → w-halt gridstep w ≡ o →
         (went n (w-step gridstep w)).end.board.clock.0 ≡ w.board.clock.0 + 1 + (went n (w-step gridstep w)).taken →
         (went (suc n) w).end.board.clock.0 ≡ w.board.clock.0 + (went (suc n) w).taken
-    go none e ih = rw (ticks-on (w-halt gridstep) (w-step gridstep) n w e) (omega arith)
-    go (some x) e ih = rw (ticks-off (w-halt gridstep) (w-step gridstep) n w x e) (sym (add-zero w.board.clock.0))
+    go None e ih = rw (ticks-on (w-halt gridstep) (w-step gridstep) n w e) (omega arith)
+    go (Some x) e ih = rw (ticks-off (w-halt gridstep) (w-step gridstep) n w x e) (sym (add-zero w.board.clock.0))
 
 -- the clock after a call is the clock before it and the ticks taken
 part-clock : (p : Part Call) (w : World Board) →
@@ -140,10 +120,10 @@ part-clock (run n) w = go (w-bar gridstep w) refl
   where
     go : (o : Option ℕ) → w-bar gridstep w ≡ o →
         (perform gridstep (run n) w).left.board.clock.0 ≡ w.board.clock.0 + taken_in (perform gridstep (run n) w).answer
-    go none e =
+    go None e =
         let r = ticks (w-halt gridstep) (w-step gridstep) n w in
         rw (advance-in (w-halt gridstep) (w-step gridstep) (w-bar gridstep) stopped_by refused n w e, read.taken_done r.taken r.why) (ticks-clock n w)
-    go (some k) e =
+    go (Some k) e =
         rw (advance-out (w-halt gridstep) (w-step gridstep) (w-bar gridstep) stopped_by refused n w k e) (sym (add-zero w.board.clock.0))
 
 -- the clock never falls, and the ticks taken that an answer carries are the clock after the call less the clock before it

@@ -2,9 +2,9 @@
 use mathlib.Core.Path.{◌≡◌, refl, sym, ap, ◌∙◌}
 use mathlib.Core.Bool.{Bool, true, false, cond, ◌&&◌}
 use mathlib.Core.List.{List, [], ◌∷◌, ◌++◌}
-use Prim.Native.Nat.{ℕ, suc, ◌+◌, ◌-◌, ◌≤◌, ◌<◌}
+use Prim.Native.Nat.{ℕ, suc, ◌+◌, ◌-◌, ◌%◌, ◌≤◌, ◌<◌}
 use native.Mathlib.Omega.{arith}
-use borrow.Author.Tests.{ltb-true, ltb-false, lt-ltb, le-ltb, leb-true, le-leb, lt-leb, eqb-true, eq-eqb, ne_eqb}
+use borrow.Author.Tests.{ltb-true, ltb-false, lt-ltb, le-ltb, leb-true, eqb-true, eq-eqb, ne_eqb}
 use lib.Dec.{eqb, ltb, leb}
 use lib.IntN.{ℤ, pos, negsuc}
 use lib.ListN.{length, take, drop, get_or, take-append-drop, length-drop}
@@ -18,8 +18,8 @@ use Rattle.board.specs.Log.{le, from_le, write_at}
 use Rattle.board.specs.Log.{record_width, kind_test, twos_of, signed_of, position_of, RecordValues, record_values, bytes_of, record_bytes, spelled}
 use Rattle.board.specs.Log.{packed, record_is, refused, unpack_said, unpack_of, pack_answer, pack_bytes}
 use Rattle.board.specs.declared.log.Record.{Record}
-use Rattle.board.specs.declared.log.Unpacked.TheVariants.{Held}
-use Rattle.board.proofs.log.Words.{small-cons, small-append, le-small, from_le-le, write-write, length-write, write_low, write-high, read-write, next-four, le_four, four-small}
+use Rattle.std.specs.Prelude.{Ok}
+use Rattle.board.proofs.log.Words.{small-cons, small-append, le-small, from_le-le, length-write, write_low, write-high, read-write, next-four, le_four, four-small}
 
 -- ---- positions in two's complement
 
@@ -69,28 +69,18 @@ signed-twos c h =
     (λ l m. signed-pos (c.0 - 1000000) (omega arith))
     (λ l. signed-neg (4294967296 - suc (4295967295 - c.0)) (omega arith) ∙ ap negsuc (omega arith))
 
--- the two ways of the code: below the wrap, and from it on
-pub twos-low : (c : Coordinate) → c.0 < 1000000 → c.0 + 4293967296 ≡ twos_of (position_of c)
+-- a coordinate less 1,000,000, wrapped, is its position's two's complement; and back
+pub twos-wrapped : (c : Coordinate) → c.0 < 4294967296 → (c.0 + 4293967296) % 4294967296 ≡ twos_of (position_of c)
 unfolding twos_of
-twos-low c h = by-position (λ (z : ℤ). c.0 + 4293967296 ≡ twos_of z) c (λ l. omega arith) (λ l m. omega arith) (λ l. omega arith)
+twos-wrapped c h =
+    by-position (λ (z : ℤ). (c.0 + 4293967296) % 4294967296 ≡ twos_of z) c (λ l. omega arith) (λ l m. omega arith) (λ l. omega arith)
 
-pub twos-high : (c : Coordinate) → 1000000 ≤ c.0 → c.0 < 4294967296 → c.0 - 1000000 ≡ twos_of (position_of c)
-unfolding twos_of
-twos-high c h l = by-position (λ (z : ℤ). c.0 - 1000000 ≡ twos_of z) c (λ m. omega arith) (λ m n. refl) (λ m. omega arith)
-
-pub coordinate-low : (w : ℕ) → w < 4293967296 → position_of (record { 0 = w + 1000000 }) ≡ signed_of w
-coordinate-low w h =
-    by-position (λ (z : ℤ). z ≡ signed_of w) (record { 0 = w + 1000000 })
-    (λ l. absurd (omega arith))
+pub coordinate-wrapped : (w : ℕ) → w < 4294967296 → position_of (record { 0 = (w + 1000000) % 4294967296 }) ≡ signed_of w
+coordinate-wrapped w h =
+    by-position (λ (z : ℤ). z ≡ signed_of w) (record { 0 = (w + 1000000) % 4294967296 })
+    (λ l. ap negsuc (omega arith) ∙ sym (signed-neg w (omega arith)))
     (λ l m. ap pos (omega arith) ∙ sym (signed-pos w (omega arith)))
     (λ l. ap negsuc (omega arith) ∙ sym (signed-neg w (omega arith)))
-
-pub coordinate-high : (w : ℕ) → 4293967296 ≤ w → w < 4294967296 → position_of (record { 0 = w - 4293967296 }) ≡ signed_of w
-coordinate-high w h l =
-    by-position (λ (z : ℤ). z ≡ signed_of w) (record { 0 = w - 4293967296 })
-    (λ m. ap negsuc (omega arith) ∙ sym (signed-neg w (omega arith)))
-    (λ m n. absurd (omega arith))
-    (λ m. absurd (omega arith))
 
 -- ---- the bytes of a record
 
@@ -181,7 +171,7 @@ unfolding unpack_of
 unpack-holds s l k = simp (eq-eqb (length s) record_width l, k)
 
 -- a record that unpacking holds has the values that the bytes spell
-module _ (r : Record) (s : List ℕ) (says : unpack_said (Held r) ≡ unpack_of s) where
+module _ (r : Record) (s : List ℕ) (says : unpack_said (Ok r) ≡ unpack_of s) where
   unpack-says : (length s ≡ record_width) × (record_values r ≡ spelled s)
   unfolding unpack_of
   unpack-says = go (eqb (length s) record_width && kind_test (get_or s 5 0)) refl says
@@ -207,19 +197,6 @@ module _ (r : Record) (s : List ℕ) (at : ℕ) where
   unfolding pack_answer pack_bytes
   by-test e =
       (ap (λ (b : Bool). cond b packed (refused 3)) e, ap (λ (b : Bool). cond b (write_at s at (record_bytes r)) s) e)
-
-  -- a record of another kind is refused 3, and changes no byte
-  pub pack-refuses : kind_test r.kind ≡ false → (pack_answer r s at ≡ refused 3) × (pack_bytes r s at ≡ s)
-  pack-refuses k = by-test (ap (λ (b : Bool). b && leb (at + record_width) (length s)) k)
-
-  -- and so is a record that doesn't fit there
-  pub pack-refuses-room : length s < at + record_width → (pack_answer r s at ≡ refused 3) × (pack_bytes r s at ≡ s)
-  pack-refuses-room h = by-test (and-false (kind_test r.kind) (lt-leb (at + record_width) (length s) h))
-
-  -- every other record is packed
-  pub pack-accepts : kind_test r.kind ≡ true → at + record_width ≤ length s
-      → (pack_answer r s at ≡ packed) × (pack_bytes r s at ≡ write_at s at (record_bytes r))
-  pack-accepts k h = by-test (λ i. k i && le-leb (at + record_width) (length s) h i)
 
   -- ---- what packing leaves
 
@@ -261,34 +238,7 @@ module _ (r : Record) (s : List ℕ) (at : ℕ) where
   pack-length =
       cond_cases (λ (m : List ℕ). length m ≡ length s) (kind_test r.kind && leb (at + record_width) (length s)) (λ e. record-length (room e)) (λ e. refl)
 
--- ---- what the code writes
-
--- a record is written in four parts
-pub four-writes : (xs l₁ l₂ l₃ l₄ : List ℕ) (at w : ℕ) (r : Record) → at + record_width ≤ length xs → w ≡ twos_of (position_of r.position)
-    → l₁ ≡ write_at xs at (le 4 r.clock.0) → l₂ ≡ write_at l₁ (at + 4) (middle r) → l₃ ≡ write_at l₂ (at + 8) (le 4 w)
-    → l₄ ≡ write_at l₃ (at + 12) (le 4 r.passes.0) → l₄ ≡ write_at xs at (record_bytes r)
-unfolding record_bytes bytes_of le
-four-writes xs l₁ l₂ l₃ l₄ at w r h ew e₁ e₂ e₃ e₄ =
-    let a : List ℕ = le 4 r.clock.0 in
-    let p : List ℕ = le 4 (twos_of (position_of r.position)) in
-    let f₂ : l₂ ≡ write_at xs at (a ++ middle r) = e₂ ∙ ap (λ (l : List ℕ). write_at l (at + 4) (middle r)) e₁ ∙ write-write xs a (middle r) at (at + 4) refl (omega arith) in
-    let f₃ : l₃ ≡ write_at xs at ((a ++ middle r) ++ p) = e₃ ∙ (λ i. write_at (f₂ i) (at + 8) (le 4 (ew i))) ∙ write-write xs (a ++ middle r) p at (at + 8) refl (omega arith) in
-    e₄ ∙ ap (λ (l : List ℕ). write_at l (at + 12) (le 4 r.passes.0)) f₃ ∙ write-write xs ((a ++ middle r) ++ p) (le 4 r.passes.0) at (at + 12) refl (omega arith)
-
--- a record is read from three words and four bytes
-pub unpack-held : (s : List ℕ) (p : Coordinate) {c w n : ℕ} → length s ≡ record_width → kind_test (get_or s 5 0) ≡ true
-    → c ≡ from_le (take 4 s) → w ≡ from_le (take 4 (drop 8 s)) → position_of p ≡ signed_of w → n ≡ from_le (take 4 (drop 12 s))
-    → unpack_said (Held (record { clock = record { 0 = c }; track = get_or s 4 0; kind = get_or s 5 0; event = get_or s 6 0; detail = get_or s 7 0; position = p; passes = record { 0 = n } }))
-    ≡ unpack_of s
+-- a record that 16 bytes spell has their kind
+pub read-kind : (r : Record) (s : List ℕ) → record_values r ≡ spelled s → r.kind ≡ get_or s 5 0
 unfolding spelled
-unpack-held s p l k ec ew ep en =
-    (λ i. record_is (record {
-      clock = ec i;
-      track = get_or s 4 0;
-      kind = get_or s 5 0;
-      event = get_or s 6 0;
-      detail = get_or s 7 0;
-      position = (ep ∙ ap signed_of ew) i;
-      passes = en i;
-    }))
-    ∙ sym (unpack-holds s l k)
+read-kind r s e = ap (λ (v : RecordValues). v.kind) e

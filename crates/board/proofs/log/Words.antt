@@ -3,9 +3,11 @@ use mathlib.Core.Path.{◌≡◌, refl, sym, ap, subst, ◌∙◌}
 use mathlib.Core.List.{List, [], ◌∷◌, ◌++◌, append_assoc}
 use Prim.Native.Nat.{ℕ, zero, suc, ◌+◌, ◌-◌, ◌*◌, ◌≤◌, ◌<◌, ◌/◌, ◌%◌, ◌^◌}
 use native.Mathlib.Omega.{arith}
-use native.Mathlib.Nat.{div-add-mod', mod-lt, div-lt_iff_lt-mul, pow-suc}
+use native.Mathlib.Nat.{div-add-mod', mod-lt, div-lt_iff_lt-mul, div-div-eq-div-mul, pow-suc}
 use lib.ListN.{length, get_or, set, take, drop, length-append, length-drop, get_or-append}
 use lib.Seq.{sets-eq, drop-cons, length-take-le, take_at, drop_at, drop-append-add, drop-drop, get_or-append-add, get_or-take, get_or-drop}
+use Rattle.std.specs.Int.{w32, to_le_bytes, from_le_bytes}
+use borrow.Rule.Slice.PartMut.{put_mid}
 use Rattle.board.specs.Log.{le, from_le, write_at}
 
 -- ---- lists of bytes
@@ -74,7 +76,18 @@ from_le-small (b ∷ bs) s =
     let h : b < 256 = s zero in
     omega (arith, h, from_le-small bs (λ j. s (suc j)), pow-suc 256 (length bs))
 
+-- the library's four bytes of a number are these
+pub word-bytes : (x : ℕ) → to_le_bytes w32 x ≡ le 4 x
+unfolding le
+word-bytes x = simp (div-div-eq-div-mul x 256 256, div-div-eq-div-mul x (256 * 256) 256)
+
 -- ---- a part of a list written over
+
+-- a part of a list that takes other elements is a write of them
+pub write-part : (at k : ℕ) (xs : List ℕ) {ys zs : List ℕ} → ys ≡ zs → k ≡ length zs → put_mid at k xs ys ≡ write_at xs at zs
+unfolding write_at
+write-part at k xs {ys} {zs} e l =
+    (λ i. take at xs ++ (e i ++ drop (l i) (drop at xs))) ∙ ap (λ (r : List ℕ). take at xs ++ (zs ++ r)) (drop-drop (length zs) at xs)
 
 -- four stores are a write of four
 pub four-stores : (xs : List ℕ) (at a b c d : ℕ) → at + 4 ≤ length xs
@@ -155,14 +168,11 @@ next-four s at h =
     ∙ (λ i. get_or s at 0 ∷ get_or s (at + 1) 0 ∷ (drop-cons s (at + 2) 0 (omega arith) ∙ (λ j. get_or s (at + 2) 0 ∷ drop (e₃ j) s)) i)
     ∙ (λ i. get_or s at 0 ∷ get_or s (at + 1) 0 ∷ get_or s (at + 2) 0 ∷ (drop-cons s (at + 3) 0 (omega arith) ∙ (λ j. get_or s (at + 3) 0 ∷ drop (e₄ j) s)) i)
 
--- the number that four reads spell
-pub four-reads : (s : List ℕ) (at a b c d : ℕ) → at + 4 ≤ length s
-    → a ≡ get_or s at 0 → b ≡ get_or s (at + 1) 0 → c ≡ get_or s (at + 2) 0 → d ≡ get_or s (at + 3) 0
-    → a + 256 * (b + 256 * (c + 256 * d)) ≡ from_le (take 4 (drop at s))
+-- the library's number of four bytes is the one that they spell
+pub word-read : (s : List ℕ) (at : ℕ) → at + 4 ≤ length s
+    → from_le_bytes w32 (get_or s at 0 ∷ get_or s (at + 1) 0 ∷ get_or s (at + 2) 0 ∷ get_or s (at + 3) 0 ∷ []) ≡ from_le (take 4 (drop at s))
 unfolding from_le
-four-reads s at a b c d h ea eb ec ed =
-    let z : d ≡ get_or s (at + 3) 0 + 0 = omega (arith, ed) in
-    (λ i. ea i + 256 * (eb i + 256 * (ec i + 256 * z i))) ∙ sym (ap (λ (r : List ℕ). from_le (take 4 r)) (next-four s at h))
+word-read s at h = rw (next-four s at h) (omega arith)
 
 length-four : (s : List ℕ) (at : ℕ) → at + 4 ≤ length s → length (take 4 (drop at s)) ≡ 4
 length-four s at h = length-take-le 4 (drop at s) (simp length-drop (omega arith))

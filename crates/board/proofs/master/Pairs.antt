@@ -1,17 +1,15 @@
 -- The pairs of a call that sets a master: what the numbers in their places say of the thresholds and events that they are.
-use Prim.Native.Nat.{ℕ, zero, suc, ◌+◌, ◌≤◌, ◌<◌}
+use Rattle.std.specs.Prelude.{Option, Some, None}
+use Prim.Native.Nat.{ℕ, zero, suc, ◌+◌, ◌≤◌, ◌<◌, min}
 use mathlib.Core.Path.{◌≡◌, refl, sym, ◌∙◌, ap}
 use mathlib.Core.Bool.{Bool, true, false, cond, not, ◌&&◌, false≢true, and-false}
-use mathlib.Core.List.{List, [], ◌∷◌}
+use mathlib.Core.List.{List, [], ◌∷◌, ◌++◌}
 use native.Mathlib.Nat.{not-suc-le-zero, le_of_suc-le-suc}
 use native.Mathlib.Omega.{arith}
 use lib.Dec.{leb, eqb}
 use lib.IntN.{ℤ, pos}
-use lib.ListN.{length, get_or, set, drop, drop_of_length-le, get_or-eq_default}
-use lib.Seq.{drop-cons, get_or-drop, drop-drop}
+use lib.ListN.{length, get_or, set, drop}
 use borrow.Author.Tests.{le-leb, lt-leb, leb-true, eq-eqb, ne_eqb}
-use Rattle.track.specs.declared.number.Natural.{Natural}
-use Rattle.track.specs.declared.number.Natural.TheVariants as natural
 use Rattle.track.specs.Rule.{STOPPED, threshold_count, threshold_most, event_most}
 use Rattle.track.specs.Number.{natural_of}
 use Rattle.track.specs.declared.Track.{Track}
@@ -20,7 +18,7 @@ use Rattle.track.proofs.Tests.{both, both_is, cond_yes, cond_no}
 use Rattle.track.proofs.Numbers.{natural-in}
 use Rattle.board.specs.Points.{ascending_from}
 use Rattle.board.specs.declared.Board.{Board}
-use Rattle.board.specs.declared.setup.Outcome.{Outcome}
+use Rattle.board.specs.Setup.{Outcome}
 use Rattle.board.specs.Board.{track_at, is_present, master_test}
 use Rattle.board.specs.Setup.{accepted, refused, board_with, put_master}
 use Rattle.board.specs.Setup.{is_in, number_in, number_at, ranged_test, thresholds_in, events_in, rising_test, row_of, master_named}
@@ -31,32 +29,32 @@ module _ (z : ℤ) (most : ℕ) where
   pub in-none : number_in (natural_of z 1 most) ≡ 0 → is_in (natural_of z 1 most) ≡ false
   in-none = go (natural_of z 1 most) refl
     where
-      go : (n : Natural) → natural_of z 1 most ≡ n → number_in n ≡ 0 → is_in n ≡ false
-      go (natural.In k) e h = let r = (natural-in z 1 most e).1 in absurd (omega arith)
-      go natural.Outside e h = refl
+      go : (n : Option ℕ) → natural_of z 1 most ≡ n → number_in n ≡ 0 → is_in n ≡ false
+      go (Some k) e h = let r = (natural-in z 1 most e).1 in absurd (omega arith)
+      go None e h = refl
 
   pub in_some : (number_in (natural_of z 1 most) ≡ 0 → ⊥) → is_in (natural_of z 1 most) ≡ true
   in_some = go (natural_of z 1 most)
     where
-      go : (n : Natural) → (number_in n ≡ 0 → ⊥) → is_in n ≡ true
-      go (natural.In k) h = refl
-      go natural.Outside h = absurd (h refl)
+      go : (n : Option ℕ) → (number_in n ≡ 0 → ⊥) → is_in n ≡ true
+      go (Some k) h = refl
+      go None h = absurd (h refl)
 
   -- it is never above the most
   pub in-most : number_in (natural_of z 1 most) ≤ most
   in-most = go (natural_of z 1 most) refl
     where
-      go : (n : Natural) → natural_of z 1 most ≡ n → number_in n ≤ most
-      go (natural.In k) e = (natural-in z 1 most e).2
-      go natural.Outside e = omega arith
+      go : (n : Option ℕ) → natural_of z 1 most ≡ n → number_in n ≤ most
+      go (Some k) e = (natural-in z 1 most e).2
+      go None e = omega arith
 
   -- one in range is from 1 to the most
   pub in-range : is_in (natural_of z 1 most) ≡ true → (1 ≤ number_in (natural_of z 1 most)) × (number_in (natural_of z 1 most) ≤ most)
   in-range = go (natural_of z 1 most) refl
     where
-      go : (n : Natural) → natural_of z 1 most ≡ n → is_in n ≡ true → (1 ≤ number_in n) × (number_in n ≤ most)
-      go (natural.In k) e h = let r = natural-in z 1 most e in (r.1, r.2)
-      go natural.Outside e h = absurd (false≢true h)
+      go : (n : Option ℕ) → natural_of z 1 most ≡ n → is_in n ≡ true → (1 ≤ number_in n) × (number_in n ≤ most)
+      go (Some k) e h = let r = natural-in z 1 most e in (r.1, r.2)
+      go None e h = absurd (false≢true h)
 
   -- so it is not 0
   pub in-nonzero : is_in (natural_of z 1 most) ≡ true → eqb (number_in (natural_of z 1 most)) 0 ≡ false
@@ -65,11 +63,6 @@ module _ (z : ℤ) (most : ℕ) where
 none-past : (most : ℕ) → number_in (natural_of (pos 0) 1 most) ≡ 0
 unfolding natural_of
 none-past most = simp and-false
-
--- behind the numbers there is 0
-pub number_past : (zs : List ℤ) (at most : ℕ) → length zs ≤ at → 0 ≡ number_at zs at most
-number_past zs at most l =
-    sym (ap (λ (z : ℤ). number_in (natural_of z 1 most)) (get_or-eq_default zs (pos 0) {n = at} l) ∙ none-past most)
 
 -- ---- a pass over the pairs
 
@@ -92,33 +85,33 @@ unfolding ranged_test natural_of
 both-in x [] g h = absurd (h refl)
 both-in x (e ∷ zs) g h = simp (in_some x threshold_most g, in_some e event_most h)
 
-module _ (zs : List ℤ) (i : ℕ) where
-  second : (most : ℕ) → number_at (drop (suc i) zs) 0 most ≡ number_at zs (i + 1) most
-  second most =
-      let e : suc i + 0 ≡ i + 1 = omega arith in
-      ap (λ (z : ℤ). number_in (natural_of z 1 most)) (get_or-drop (suc i) zs 0 (pos 0) ∙ ap (λ (n : ℕ). get_or zs n (pos 0)) e)
+-- a turn with the first two of the numbers, or the last one
+module _ {all : List ℤ} where
+  pub chunk-low : (ps rest : List ℤ) → all ≡ ps ++ rest → length ps ≡ min 2 (length all) → 0 < length all →
+      number_at ps 0 threshold_most ≡ 0 → false ≡ ranged_test all
+  chunk-low [] rest e l some h = absurd (omega arith)
+  chunk-low (x ∷ ps) rest e l some h = sym (ap ranged_test e ∙ first-none x (ps ++ rest) h)
 
-  module _ (l : i < length zs) where
-    opened : ranged_test (drop i zs) ≡ ranged_test (get_or zs i (pos 0) ∷ drop (suc i) zs)
-    opened = ap ranged_test (drop-cons zs i (pos 0) l)
-
-    pub ranged-low : number_at zs i threshold_most ≡ 0 → false ≡ ranged_test (drop i zs)
-    ranged-low h = sym (opened ∙ first-none (get_or zs i (pos 0)) (drop (suc i) zs) h)
-
-    pub ranged-event : number_at zs (i + 1) event_most ≡ 0 → false ≡ ranged_test (drop i zs)
-    ranged-event h = sym (opened ∙ second_none (get_or zs i (pos 0)) (drop (suc i) zs) (second event_most ∙ h))
-
-    pub ranged-next : (number_at zs i threshold_most ≡ 0 → ⊥) → (number_at zs (i + 1) event_most ≡ 0 → ⊥) →
-        ranged_test (drop (i + 2) zs) ≡ ranged_test (drop i zs)
-    ranged-next g h =
-        let e : i + 2 ≡ suc i + 1 = omega arith in
-        ap ranged_test (ap (λ (n : ℕ). drop n zs) e ∙ sym (drop-drop 1 (suc i) zs))
-        ∙ both-in (get_or zs i (pos 0)) (drop (suc i) zs) g (λ q. h (sym (second event_most) ∙ q))
-        ∙ sym opened
-
-  pub ranged-end : length zs ≤ i → true ≡ ranged_test (drop i zs)
+  pub chunk-event : (ps rest : List ℤ) → all ≡ ps ++ rest → length ps ≡ min 2 (length all) → 0 < length all →
+      number_at ps 1 event_most ≡ 0 → false ≡ ranged_test all
   unfolding ranged_test
-  ranged-end l = rw (drop_of_length-le zs {i = i} l)
+  chunk-event [] rest e l some h = absurd (omega arith)
+  chunk-event (x ∷ []) [] e l some h = sym (ap ranged_test e)
+  chunk-event (x ∷ []) (y ∷ rest) e l some h = let n : length all ≡ suc (suc (length rest)) = ap length e in absurd (omega arith)
+  chunk-event (x ∷ y ∷ ps) rest e l some h = sym (ap ranged_test e ∙ second_none x (y ∷ (ps ++ rest)) h)
+
+  pub chunk-next : (ps rest : List ℤ) → all ≡ ps ++ rest → length ps ≡ min 2 (length all) → 0 < length all →
+      (number_at ps 0 threshold_most ≡ 0 → ⊥) → (number_at ps 1 event_most ≡ 0 → ⊥) → ranged_test rest ≡ ranged_test all
+  chunk-next [] rest e l some g h = absurd (omega arith)
+  chunk-next (x ∷ []) rest e l some g h = absurd (h (none-past event_most))
+  chunk-next (x ∷ y ∷ []) rest e l some g h = both-in x (y ∷ rest) g h ∙ sym (ap ranged_test e)
+  chunk-next (x ∷ y ∷ z ∷ ps) rest e l some g h = absurd (omega arith)
+
+-- behind the last
+pub chunk-end : (zs : List ℤ) → length zs ≡ 0 → true ≡ ranged_test zs
+unfolding ranged_test
+chunk-end [] l = refl
+chunk-end (z ∷ zs) l = absurd (omega arith)
 
 -- ---- pairs in their ranges
 
@@ -248,14 +241,6 @@ module _ (zs : List ℤ) (h : ranged_test zs ≡ true) where
 
 -- ---- the master that is kept
 
-pub master-given : (m : ℕ) (zs : List ℤ) → (length zs ≡ 0 → ⊥) → m ≡ master_named m zs
-master-given m [] n = absurd (n refl)
-master-given m (z ∷ zs) n = refl
-
-pub master-free : (m : ℕ) (zs : List ℤ) → length zs ≡ 0 → 0 ≡ master_named m zs
-master-free m [] e = refl
-master-free m (z ∷ zs) e = absurd (omega arith)
-
 -- it is another track that is present, or 0
 pub master-kept : (present i m : ℕ) (t : Track) (zs : List ℤ) → is_present present m ≡ true → (i ≡ m → ⊥) → ranged_test zs ≡ true →
     master_test present i (following t (master_named m zs) (row_of (thresholds_in zs)) (row_of (events_in zs))) ≡ true
@@ -265,64 +250,45 @@ master-kept present i m t (x ∷ []) p n h = absurd (false≢true h)
 master-kept present i m t (x ∷ e ∷ zs) p n h =
     simp (in-nonzero x threshold_most (first-in x e zs h), p, ne_eqb m i (λ z. n (sym z)))
 
--- ---- the ways out of `put_master`
+-- ---- the ways out of `put_master`, from the test of the pairs on
 
-module _ (b : Board) (i m : ℕ) (zs : List ℤ) where
-  pub put-playing : {r : Outcome} → ((track_at b.tracks i).mode ≡ STOPPED → ⊥) → r ≡ refused 2 b → r ≡ put_master b i m zs
+module _ (b : Board) (i m : ℕ) (zs : List ℤ) (stopped : (track_at b.tracks i).mode ≡ STOPPED) (other : i ≡ m → ⊥) {a : Bool} (ea : a ≡ ranged_test zs)
+    (ha : a ≡ true) where
+  ranged : ranged_test zs ≡ true
+  ranged = sym ea ∙ ha
+
+  -- a value in its range: what is left is whether the thresholds rise
+  valued : {r : Outcome} →
+      r ≡ cond (rising_test (thresholds_in zs))
+      (accepted (board_with b
+      (set b.tracks i (following (track_at b.tracks i) (master_named m zs) (row_of (thresholds_in zs)) (row_of (events_in zs))))
+      b.present b.points b.held))
+      (refused 10 b) → r ≡ put_master b i m zs
   unfolding put_master
-  put-playing n e = cond_no _ _ (ne_eqb _ _ n) e
+  valued e =
+      let f : (not (eqb i m) && ranged_test zs) ≡ true = both_is (ap not (ne_eqb i m other)) ranged in
+      cond_yes _ _ (eq-eqb _ _ stopped) (cond_yes _ _ f e)
 
-  module _ (stopped : (track_at b.tracks i).mode ≡ STOPPED) where
-    pub put_self : {r : Outcome} → i ≡ m → r ≡ refused 3 b → r ≡ put_master b i m zs
-    unfolding put_master
-    put_self h e =
-        let f : (not (eqb i m) && ranged_test zs) ≡ false = simp (eq-eqb i m h) in
-        cond_yes _ _ (eq-eqb _ _ stopped) (cond_no _ _ f e)
+  pub put-many : 8 < length zs → refused 10 b ≡ put_master b i m zs
+  put-many l = valued (cond_no _ _ (pairs-many zs ranged l) refl)
 
-    module _ (other : i ≡ m → ⊥) {a : Bool} (ea : a ≡ ranged_test zs) where
-      pub put-range : {r : Outcome} → a ≡ false → r ≡ refused 3 b → r ≡ put_master b i m zs
-      unfolding put_master
-      put-range h e =
-          let f : (not (eqb i m) && ranged_test zs) ≡ false = simp (ne_eqb i m other, ← ea, h) in
-          cond_yes _ _ (eq-eqb _ _ stopped) (cond_no _ _ f e)
+  module _ (l : length zs ≤ 8) {xs es : List ℕ}
+      (ex : xs ≡ number_at zs 0 threshold_most ∷ number_at zs 2 threshold_most ∷ number_at zs 4 threshold_most ∷ number_at zs 6 threshold_most ∷ [])
+      (ee : es ≡ number_at zs 1 event_most ∷ number_at zs 3 event_most ∷ number_at zs 5 event_most ∷ number_at zs 7 event_most ∷ [])
+      {k : Bool} (ek : k ≡ pairs_test 0 xs es) where
+    rises : k ≡ rising_test (thresholds_in zs)
+    rises =
+        ek
+        ∙ (λ j. pairs_test 0 (thresholds-row zs ranged ex j) (events-row zs ranged ee j))
+        ∙ pairs-rising zs ranged l
 
-      module _ (ha : a ≡ true) where
-        ranged : ranged_test zs ≡ true
-        ranged = sym ea ∙ ha
+    pub put-falling : k ≡ false → refused 10 b ≡ put_master b i m zs
+    put-falling h = valued (cond_no _ _ (sym rises ∙ h) refl)
 
-        -- a value in its range: what is left is whether the thresholds rise
-        valued : {r : Outcome} →
-            r ≡ cond (rising_test (thresholds_in zs))
-            (accepted (board_with b
-            (set b.tracks i (following (track_at b.tracks i) (master_named m zs) (row_of (thresholds_in zs)) (row_of (events_in zs))))
-            b.present b.points b.held))
-            (refused 10 b) → r ≡ put_master b i m zs
-        unfolding put_master
-        valued e =
-            let f : (not (eqb i m) && ranged_test zs) ≡ true = both_is (ap not (ne_eqb i m other)) ranged in
-            cond_yes _ _ (eq-eqb _ _ stopped) (cond_yes _ _ f e)
-
-        pub put-many : {r : Outcome} → 8 < length zs → r ≡ refused 10 b → r ≡ put_master b i m zs
-        put-many l e = valued (cond_no _ _ (pairs-many zs ranged l) e)
-
-        module _ (l : length zs ≤ 8) {xs es : List ℕ}
-            (ex : xs ≡ number_at zs 0 threshold_most ∷ number_at zs 2 threshold_most ∷ number_at zs 4 threshold_most ∷ number_at zs 6 threshold_most ∷ [])
-            (ee : es ≡ number_at zs 1 event_most ∷ number_at zs 3 event_most ∷ number_at zs 5 event_most ∷ number_at zs 7 event_most ∷ [])
-            {k : Bool} (ek : k ≡ pairs_test 0 xs es) where
-          rises : k ≡ rising_test (thresholds_in zs)
-          rises =
-              ek
-              ∙ (λ j. pairs_test 0 (thresholds-row zs ranged ex j) (events-row zs ranged ee j))
-              ∙ pairs-rising zs ranged l
-
-          pub put-falling : {r : Outcome} → k ≡ false → r ≡ refused 10 b → r ≡ put_master b i m zs
-          put-falling h e = valued (cond_no _ _ (sym rises ∙ h) e)
-
-          pub put-done : {r : Outcome} → k ≡ true → {s : ℕ} → s ≡ master_named m zs → {u : Track} → u ≡ following (track_at b.tracks i) s xs es →
-              r ≡ accepted (board_with b (set b.tracks i u) b.present b.points b.held) → r ≡ put_master b i m zs
-          put-done h ev eu e =
-              valued
-              (cond_yes _ _ (sym rises ∙ h)
-              (e
-              ∙ ap (λ (v : Track). accepted (board_with b (set b.tracks i v) b.present b.points b.held))
-              (eu ∙ (λ j. following (track_at b.tracks i) (ev j) (thresholds-row zs ranged ex j) (events-row zs ranged ee j)))))
+    pub put-done : k ≡ true → {s : ℕ} → s ≡ master_named m zs → {u : Track} → u ≡ following (track_at b.tracks i) s xs es →
+        accepted (board_with b (set b.tracks i u) b.present b.points b.held) ≡ put_master b i m zs
+    put-done h ev eu =
+        valued
+        (cond_yes _ _ (sym rises ∙ h)
+        (ap (λ (v : Track). accepted (board_with b (set b.tracks i v) b.present b.points b.held))
+        (eu ∙ (λ j. following (track_at b.tracks i) (ev j) (thresholds-row zs ranged ex j) (events-row zs ranged ee j)))))

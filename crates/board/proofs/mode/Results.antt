@@ -1,33 +1,32 @@
 -- What a mode call comes to on each way out, and that what follows its result is what the call gives.
+use Rattle.std.specs.Prelude.{Some, Result, Err}
+use Rattle.track.specs.declared.refusal.Refusal.{Refusal}
 use Prim.Native.Nat.{ℕ, ◌+◌, ◌*◌, ◌≤◌, ◌<◌}
 use mathlib.Core.Path.{◌≡◌, refl, sym, ◌∙◌, ap, subst}
-use mathlib.Core.List.{List, [], ◌∷◌}
+use mathlib.Core.List.{List, [], ◌∷◌, append-nil}
 use native.Mathlib.Nat.{add-zero, mul_comm}
 use native.Mathlib.Omega.{arith}
 use lib.IntN.{ℤ}
 use lib.ListN.{length, set}
-use lib.Seq.{sets, set-get_or}
-use borrow.Author.Tests.{eq-eqb, ne_eqb, le-leb, lt-leb}
+use lib.Seq.{sets}
+use borrow.Author.Tests.{le-leb, lt-leb}
 use Rattle.track.specs.declared.Track.{Track}
-use Rattle.track.specs.declared.setup.Answer.TheVariants.{Accepted, Refused}
-use Rattle.track.specs.Rule.{action_cell, entered}
+use Rattle.track.specs.Refusal.{Accepted, number_of}
+use Rattle.track.specs.Rule.{entered}
 use Rattle.track.proofs.Tests.{cond_yes, cond_no}
-use Rattle.board.specs.Log.{write_at, record_width, log_bytes, capacity, detail_unit}
+use Rattle.board.specs.Log.{write_at, record_bytes, record_width, log_bytes, capacity}
 use Rattle.board.specs.declared.Board.{Board}
 use Rattle.board.specs.declared.log.Record.{Record}
-use Rattle.board.specs.declared.setup.Outcome.{Outcome}
+use Rattle.board.specs.Setup.{Outcome}
 use Rattle.board.proofs.tick.Staging.{length-log, write-none}
-use Rattle.board.specs.Board.{no_track, track_at, found_in, Unbroken}
+use Rattle.board.specs.Board.{track_at, found_in, Unbroken}
 use Rattle.board.specs.Setup.{refused, accepted, board_with}
-use Rattle.board.specs.Tick.{record_of, change_records}
-use Rattle.board.specs.Mode.{ModeResult, declined, call_records, changing, changes_to, decided, mode_result, outcome_of}
+use Rattle.board.specs.Mode.{ModeResult, declined, call_records, changing, changes_to, decided, mode_result}
 use Rattle.board.specs.declared.mode.ModeChange.{ModeChange}
 use Rattle.board.specs.Replay.{World, flat}
 use Rattle.board.specs.declared.call.Call.TheVariants as call
 use Rattle.track.specs.Grid.{PLAY, PAUSE, RESUME, STOP, grid_of}
-use Rattle.track.specs.declared.grid.Decision.TheVariants as decision
-use Rattle.track.specs.declared.number.Natural.TheVariants as natural
-use Rattle.board.specs.Call.{Reply, answered, gridstep, run_count, says_of, makes_of, does, mode_does, world, Gives}
+use Rattle.board.specs.Call.{Reply, answered, gridstep, run_count, says_of, makes_of, does, mode_does, world, Gives, ChangesMode}
 use Rattle.board.proofs.replay.Replays.{sets-write}
 use Rattle.board.proofs.rules.Broken.{unbroken-is}
 use Rattle.board.proofs.call.Machine.{flat-is, result-ways}
@@ -65,9 +64,6 @@ module _ (b : Board) (log : List ℕ) where
 
 -- the same of each of the four, the number of the track as it was given
 module _ (w : World Board) {told given : ℤ} {a : Reply} {b : Board} {log : List ℕ} (e : told ≡ given) where
-  pub gives-told : (code : ℕ) → Gives (mode_does code told w) a b log → Gives (mode_does code given w) a b log
-  gives-told code g = subst (λ (t : ℤ). Gives (mode_does code t w) a b log) e g
-
   pub play-gives : Gives (mode_does PLAY told w) a b log → Gives (does (call.Play given) w) a b log
   unfolding mode_does run_count says_of makes_of
   play-gives g = subst (λ (t : ℤ). Gives (does (call.Play t) w) a b log) e g
@@ -85,8 +81,8 @@ module _ (w : World Board) {told given : ℤ} {a : Reply} {b : Board} {log : Lis
   stop-gives g = subst (λ (t : ℤ). Gives (does (call.Stop t) w) a b log) e g
 
 -- what the grid lets act is accepted on an unbroken board, if its record, where it writes one, fits
-pub mode-goes : (b : Board) → Unbroken b → (n : ℕ) (track : ℤ) (i code mode : ℕ) → found_in b.present track ≡ natural.In i →
-    grid_of (track_at b.tracks i).mode code ≡ decision.Goes mode → b.held + length (call_records b i mode) ≤ capacity n →
+pub mode-goes : (b : Board) → Unbroken b → (n : ℕ) (track : ℤ) (i code mode : ℕ) → found_in b.present track ≡ Some i →
+    grid_of (track_at b.tracks i).mode code ≡ Some mode → b.held + length (call_records b i mode) ≤ capacity n →
     mode_result b n track code ≡ changing b i mode
 unfolding mode_result decided changes_to
 mode-goes b w n track i code mode found goes fits =
@@ -95,21 +91,22 @@ mode-goes b w n track i code mode found goes fits =
 -- ---- the ways out
 
 -- a refusal follows a result that declines
-pub follows-declined : (k : ℕ) (b : Board) (log : List ℕ) {m : ModeResult} {r : Outcome} → declined k b ≡ m → r ≡ refused k b → Follows m r log log
+follows-declined : (k : ℕ) (b : Board) (log : List ℕ) {m : ModeResult} → declined k b ≡ m → Follows m (refused k b) log log
 unfolding log_bytes
-follows-declined k b log {m} {r} e q =
-    subst (λ (m : ModeResult). Follows m r log log) e
+follows-declined k b log e =
+    subst (λ (m : ModeResult). Follows m (refused k b) log log) e
     (record {
-      answer_is = ap (λ (o : Outcome). o.answer) q;
-      board_is = ap (λ (o : Outcome). o.board) q ∙ ap (λ (h : ℕ). board_with b b.tracks b.present b.points h) (sym (add-zero b.held));
+      answer_is = refl;
+      board_is = ap (λ (h : ℕ). board_with b b.tracks b.present b.points h) (sym (add-zero b.held));
       log_is = sym (write-none log (b.held * record_width));
     })
 
--- a call that is declined leaves the board as it is
-pub unmoved : (k : ℕ) (b : Board) {r : ModeChange} → r ≡ record { answer = Refused k; at = 0; track = track_at b.tracks 0; held = b.held } → outcome_of b r ≡ refused k b
-unmoved k b e =
-    ap (outcome_of b) e
-    ∙ ap (λ (ts : List Track). refused k (board_with b ts b.present b.points b.held)) (set-get_or b.tracks 0 no_track)
+-- what a mode call gives that is refused
+pub refused-gives : (b : Board) (log : List ℕ) (track : ℤ) (code : ℕ) (e : Refusal) {r : Result ModeChange Refusal} →
+    mode_result b (length log) track code ≡ declined (number_of e) b → r ≡ Err e → ChangesMode code track b log r log
+refused-gives b log track code e m q =
+    subst (λ (r : Result ModeChange Refusal). ChangesMode code track b log r log) (sym q)
+    (result-gives b log track code (follows-declined (number_of e) b log (sym m)), tt)
 
 -- the board after a change, from the track that the callee gave
 pub changed-with : (b : Board) (i held : ℕ) {t u : Track} → t ≡ u →
@@ -120,25 +117,9 @@ module _ (b : Board) (n i mode : ℕ) where
   abbrev pub changed : Board
   changed = board_with b (set b.tracks i (entered (track_at b.tracks i) mode)) b.present b.points b.held
 
-  abbrev pub cell : ℕ
-  cell = action_cell (track_at b.tracks i) (track_at b.tracks i).mode mode
-
-  abbrev pub note_of : ℕ → Record
-  note_of event =
-      let t = track_at b.tracks i in
-      record_of b.clock.0 i 2 event (t.mode * detail_unit + mode) t.position.0 t.passes.0
-
-  silent : cell ≡ 0 → call_records b i mode ≡ []
-  unfolding change_records
-  silent e = simp (eq-eqb _ _ e)
-
-  noted : (cell ≡ 0 → ⊥) → call_records b i mode ≡ note_of cell ∷ []
-  unfolding change_records
-  noted e = simp (ne_eqb _ _ e)
-
   module _ {r : Outcome} {before : List ℕ} {m : ModeResult} (e : changes_to b n i mode ≡ m) where
     -- a change without a record never gets 8
-    pub follows-silent : cell ≡ 0 → b.held ≤ capacity n → r ≡ accepted changed → Follows m r before before
+    pub follows-silent : call_records b i mode ≡ [] → b.held ≤ capacity n → r ≡ accepted changed → Follows m r before before
     unfolding changes_to log_bytes
     follows-silent z h q =
         subst (λ (m : ModeResult). Follows m r before before) (made ∙ e)
@@ -151,30 +132,30 @@ module _ (b : Board) (n i mode : ℕ) where
       where
         made : record { answer = Accepted; board = changed; records = [] } ≡ changes_to b n i mode
         made =
-            cond_yes _ _ (le-leb (b.held + length (call_records b i mode)) (capacity n) (omega (arith, ap length (silent z))))
-            (ap (λ (rs : List Record). record { answer = Accepted; board = changed; records = rs }) (sym (silent z)))
+            cond_yes _ _ (le-leb (b.held + length (call_records b i mode)) (capacity n) (omega (arith, ap length z)))
+            (ap (λ (rs : List Record). record { answer = Accepted; board = changed; records = rs }) (sym z))
 
-    -- the change's records are written behind the held ones
-    pub follows-noted : {held : ℕ} {after : List ℕ} → (cell ≡ 0 → ⊥) → b.held < capacity n →
+    -- the change's record is written behind the held ones
+    pub follows-noted : {held : ℕ} {after : List ℕ} {x : Record} → call_records b i mode ≡ x ∷ [] → b.held < capacity n →
         r ≡ accepted (board_with b (set b.tracks i (entered (track_at b.tracks i) mode)) b.present b.points held) →
-        held ≡ b.held + length (call_records b i mode) → after ≡ write_at before (b.held * record_width) (log_bytes (call_records b i mode)) →
+        held ≡ b.held + 1 → after ≡ write_at before (b.held * record_width) (record_bytes x) →
         Follows m r before after
-    unfolding changes_to
-    follows-noted {held} {after} z h q c l =
+    unfolding changes_to log_bytes
+    follows-noted {held} {after} {x} z h q c l =
         subst (λ (m : ModeResult). Follows m r before after) (made ∙ e)
         (record {
           answer_is = ap (λ (o : Outcome). o.answer) q;
           board_is = ap (λ (o : Outcome). o.board) q
-              ∙ ap (λ (k : ℕ). board_with changed changed.tracks changed.present changed.points k) c;
-          log_is = l;
+              ∙ ap (λ (k : ℕ). board_with changed changed.tracks changed.present changed.points k) (c ∙ ap (λ (rs : List Record). b.held + length rs) (sym z));
+          log_is = l ∙ ap (write_at before (b.held * record_width)) (sym (append-nil (record_bytes x)))
+              ∙ ap (λ (rs : List Record). write_at before (b.held * record_width) (log_bytes rs)) (sym z);
         })
       where
         made : record { answer = Accepted; board = changed; records = call_records b i mode } ≡ changes_to b n i mode
         made =
-            cond_yes _ _ (le-leb (b.held + length (call_records b i mode)) (capacity n) (omega (arith, ap length (noted z)))) refl
+            cond_yes _ _ (le-leb (b.held + length (call_records b i mode)) (capacity n) (omega (arith, ap length z))) refl
 
-    pub follows-full : (cell ≡ 0 → ⊥) → capacity n ≤ b.held → r ≡ refused 8 b → Follows m r before before
-    unfolding changes_to
-    follows-full z h q =
-        follows-declined 8 b before
-        (cond_no _ _ (lt-leb (b.held + length (call_records b i mode)) (capacity n) (omega (arith, ap length (noted z)))) refl ∙ e) q
+  pub full-declines : {x : Record} → call_records b i mode ≡ x ∷ [] → capacity n ≤ b.held → declined 8 b ≡ changes_to b n i mode
+  unfolding changes_to
+  full-declines z h =
+      cond_no _ _ (lt-leb (b.held + length (call_records b i mode)) (capacity n) (omega (arith, ap length z))) refl

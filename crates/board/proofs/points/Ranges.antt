@@ -1,4 +1,5 @@
 -- Keys in a range: how many, and the first and the last of them.
+use Rattle.std.specs.Prelude.{Option, Some, None}
 use Prim.Native.Nat.{ℕ, zero, suc, ◌+◌, ◌-◌, ◌*◌, ◌≤◌, ◌<◌, suc-le-suc, zero-le}
 use native.Mathlib.Nat.{le_of_suc-le-suc, not-suc-le-zero, zero-lt-suc}
 use native.Mathlib.Omega.{arith}
@@ -12,8 +13,6 @@ use lib.Dec.{leb, ltb}
 use borrow.Author.Tests.{lt-ltb, le-ltb, le-leb, lt-leb, leb-true, ltb-true}
 use Rattle.track.specs.declared.Coordinate.{Coordinate}
 use Rattle.track.proofs.Tests.{cond_cases, both}
-use Rattle.board.specs.declared.points.Near.{Near}
-use Rattle.board.specs.declared.points.Near.TheVariants.{At, Nothing}
 use Rattle.board.specs.Points.{stride, key, ascending_from, has_key, first_from, count_of, between, find_first, or_else, find_last, nearest}
 use Rattle.board.proofs.points.Keys.{lt-or-ge, ascending-rest, ascending-low, ascending-le, first-unique, row_first, row-le, has-head, has-tail, has-none, has-past, has-low, has-below}
 
@@ -93,11 +92,11 @@ module _ (from past : ℕ) (order : from ≤ past) where
 
 -- ---- the first and the last key that a test accepts
 
-abbrev found : ℕ → ℕ → Near
-found track x = At (record { 0 = x - track * stride })
+abbrev found : ℕ → ℕ → Option Coordinate
+found track x = Some (record { 0 = x - track * stride })
 
 module _ (p : ℕ → Bool) (track : ℕ) where
-  find_none : (xs : List ℕ) → ((j : ℕ) → j < length xs → p (get_or xs j 0) ≡ false) → find_first p track xs ≡ Nothing
+  find_none : (xs : List ℕ) → ((j : ℕ) → j < length xs → p (get_or xs j 0) ≡ false) → find_first p track xs ≡ None
   unfolding find_first
   find_none [] h = refl
   find_none (x ∷ xs) h = rw (h zero (zero-lt-suc (length xs))) (find_none xs (λ j m. h (suc j) (suc-le-suc m)))
@@ -109,7 +108,7 @@ module _ (p : ℕ → Bool) (track : ℕ) where
   find_at zero (x ∷ xs) l h e = rw e
   find_at (suc i) (x ∷ xs) l h e = rw (h zero (zero-lt-suc i)) (find_at i xs (le_of_suc-le-suc l) (λ j m. h (suc j) (suc-le-suc m)) e)
 
-  last_none : (xs : List ℕ) → ((j : ℕ) → j < length xs → p (get_or xs j 0) ≡ false) → find_last p track xs ≡ Nothing
+  last_none : (xs : List ℕ) → ((j : ℕ) → j < length xs → p (get_or xs j 0) ≡ false) → find_last p track xs ≡ None
   unfolding find_last
   last_none [] h = refl
   last_none (x ∷ xs) h = rw (last_none xs (λ j m. h (suc j) (suc-le-suc m)), h zero (zero-lt-suc (length xs)))
@@ -131,10 +130,10 @@ module _ (keys : List ℕ) (n track from past : ℕ) (fits : n ≤ length keys) 
     low : (j : ℕ) → j < i → between from past (get_or (take n keys) j 0) ≡ false
     low j h = between-low from past _ ((row_first keys n from i fits ei).below j h)
 
-    pub first-end : n ≤ i → Nothing ≡ find_first (between from past) track (take n keys)
+    pub first-end : n ≤ i → None ≡ find_first (between from past) track (take n keys)
     first-end h = sym (find_none (between from past) track (take n keys) (λ j m. low j (omega (arith, len))))
 
-    pub first-over : i < n → past ≤ get_or keys i 0 → Nothing ≡ find_first (between from past) track (take n keys)
+    pub first-over : i < n → past ≤ get_or keys i 0 → None ≡ find_first (between from past) track (take n keys)
     first-over l h =
         let e = get_or-take n keys i 0 l in
         sym
@@ -158,14 +157,14 @@ module _ (keys : List ℕ) (n track from past : ℕ) (fits : n ≤ length keys) 
         let o = ascending-le 0 (take n keys) asc i j h m in
         between-high from past _ (omega arith)
 
-    pub last_end : i ≡ 0 → Nothing ≡ find_last (between from past) track (take n keys)
+    pub last_end : i ≡ 0 → None ≡ find_last (between from past) track (take n keys)
     last_end h = sym (last_none (between from past) track (take n keys) (λ j m. high j (omega arith) m))
 
     module _ (pos : i ≡ 0 → ⊥) where
       below-n : i - 1 < n
       below-n = let g = row-le keys n past i fits ei in omega arith
 
-      pub last_under : get_or keys (i - 1) 0 < from → Nothing ≡ find_last (between from past) track (take n keys)
+      pub last_under : get_or keys (i - 1) 0 < from → None ≡ find_last (between from past) track (take n keys)
       last_under h =
           let e = get_or-take n keys (i - 1) 0 below-n in
           sym
@@ -190,17 +189,17 @@ module _ (keys : List ℕ) (n track from past : ℕ) (fits : n ≤ length keys) 
 -- ---- the nearest point further on
 
 -- what the first and the last key of a range are: a key in it with none of the range sooner, or none
-record Found (track from past : ℕ) (ks : List ℕ) (Sooner : ℕ → ℕ → Type 0) (r : Near) : Type 0 where
-  pub inside : (c : Coordinate) → r ≡ At c → (from ≤ key track c.0) × (key track c.0 < past)
-  pub there : (c : Coordinate) → r ≡ At c → has_key (key track c.0) ks ≡ true
-  pub sooner : (c : Coordinate) → r ≡ At c → (y : ℕ) → from ≤ y → y < past → Sooner y (key track c.0) → has_key y ks ≡ false
-  pub none : r ≡ Nothing → (y : ℕ) → from ≤ y → y < past → has_key y ks ≡ false
+record Found (track from past : ℕ) (ks : List ℕ) (Sooner : ℕ → ℕ → Type 0) (r : Option Coordinate) : Type 0 where
+  pub inside : (c : Coordinate) → r ≡ Some c → (from ≤ key track c.0) × (key track c.0 < past)
+  pub there : (c : Coordinate) → r ≡ Some c → has_key (key track c.0) ks ≡ true
+  pub sooner : (c : Coordinate) → r ≡ Some c → (y : ℕ) → from ≤ y → y < past → Sooner y (key track c.0) → has_key y ks ≡ false
+  pub none : r ≡ None → (y : ℕ) → from ≤ y → y < past → has_key y ks ≡ false
 
-not_at : (c : Coordinate) → Nothing ≡ At c → ⊥
+not_at : (c : Coordinate) → None ≡ Some c → ⊥
 not_at c q = let z : ◌≡◌ {A = ℕ} 0 1 = cc in omega arith
 
 module _ (track from past : ℕ) (low : track * stride ≤ from) where
-  found_none : (Sooner : ℕ → ℕ → Type 0) → Found track from past [] Sooner Nothing
+  found_none : (Sooner : ℕ → ℕ → Type 0) → Found track from past [] Sooner None
   found_none Sooner = record {
     inside = λ c q. absurd (not_at c q);
     there = λ c q. absurd (not_at c q);
@@ -218,10 +217,10 @@ module _ (track from past : ℕ) (low : track * stride ≤ from) where
       none = λ q. absurd (not_at (record { 0 = x - track * stride }) (sym q));
     }
       where
-        back : (c : Coordinate) → found track x ≡ At c → key track c.0 ≡ x
+        back : (c : Coordinate) → found track x ≡ Some c → key track c.0 ≡ x
         back c q = let e : c.0 ≡ x - track * stride = cc in omega arith
 
-    found-skip : (between from past x ≡ false) → (r : Near) → Found track from past xs Sooner r → Found track from past (x ∷ xs) Sooner r
+    found-skip : (between from past x ≡ false) → (r : Option Coordinate) → Found track from past xs Sooner r → Found track from past (x ∷ xs) Sooner r
     found-skip e r f = record {
       inside = f.inside;
       there = λ c q. has-tail (key track c.0) x xs (f.there c q);
@@ -245,9 +244,9 @@ module _ (track from past : ℕ) (low : track * stride ≤ from) where
       found_here x xs (λ y x. y < x) b.0 b.1 (λ y l h w. has-past y x xs (omega arith) (has-below (suc x) y xs r (omega arith))))
       (λ e. found-skip x xs (λ y x. y < x) e (find_first (between from past) track xs) f)
 
-  last_step : (x : ℕ) (xs : List ℕ) → ascending_from (suc x) xs ≡ true → (r : Near) → Found track from past xs (λ y x. x < y) r
-      → Found track from past (x ∷ xs) (λ y x. x < y) (or_else r (cond (between from past x) (found track x) Nothing))
-  last_step x xs asc (At c) f = record {
+  last_step : (x : ℕ) (xs : List ℕ) → ascending_from (suc x) xs ≡ true → (r : Option Coordinate) → Found track from past xs (λ y x. x < y) r
+      → Found track from past (x ∷ xs) (λ y x. x < y) (or_else r (cond (between from past x) (found track x) None))
+  last_step x xs asc (Some c) f = record {
     inside = f.inside;
     there = λ c q. has-tail (key track c.0) x xs (f.there c q);
     sooner =
@@ -256,12 +255,12 @@ module _ (track from past : ℕ) (low : track * stride ≤ from) where
         has-past y x xs (omega arith) (f.sooner c q y a b w);
     none = λ q. absurd (not_at c (sym q));
   }
-  last_step x xs asc Nothing f =
+  last_step x xs asc None f =
       cond_cases (Found track from past (x ∷ xs) (λ y x. x < y)) (between from past x)
       (λ e.
       let b = between-of from past x e in
       found_here x xs (λ y x. x < y) b.0 b.1 (λ y l h w. has-past y x xs (omega arith) (f.none refl y l h)))
-      (λ e. found-skip x xs (λ y x. x < y) e Nothing f)
+      (λ e. found-skip x xs (λ y x. x < y) e None f)
 
   last_found : (lo : ℕ) (ks : List ℕ) → ascending_from lo ks ≡ true
       → Found track from past ks (λ y x. x < y) (find_last (between from past) track ks)
@@ -282,11 +281,11 @@ Passed true l c x = (c < x) × (x < l)
 Passed false l c x = (l < x) × (x < c)
 
 -- the nearest point lies further on, and none is passed on the way to it; where there is none, none lies further on
-pub record Nearest (backward : Bool) (track l start end : ℕ) (ks : List ℕ) (r : Near) : Type 0 where
-  pub further : (c : Coordinate) → r ≡ At c → Further backward l start end c.0
-  pub there : (c : Coordinate) → r ≡ At c → has_key (key track c.0) ks ≡ true
-  pub passed : (c : Coordinate) → r ≡ At c → (x : ℕ) → Passed backward l c.0 x → has_key (key track x) ks ≡ false
-  pub none : r ≡ Nothing → (x : ℕ) → Further backward l start end x → has_key (key track x) ks ≡ false
+pub record Nearest (backward : Bool) (track l start end : ℕ) (ks : List ℕ) (r : Option Coordinate) : Type 0 where
+  pub further : (c : Coordinate) → r ≡ Some c → Further backward l start end c.0
+  pub there : (c : Coordinate) → r ≡ Some c → has_key (key track c.0) ks ≡ true
+  pub passed : (c : Coordinate) → r ≡ Some c → (x : ℕ) → Passed backward l c.0 x → has_key (key track x) ks ≡ false
+  pub none : r ≡ None → (x : ℕ) → Further backward l start end x → has_key (key track x) ks ≡ false
 
 -- what nearest answers is the nearest
 pub nearest-is : (backward : Bool) (track l start end : ℕ) (ks : List ℕ) → ascending_from 0 ks ≡ true

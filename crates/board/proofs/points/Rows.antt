@@ -1,40 +1,18 @@
 -- One element put into a row or taken out of it.
 use Prim.Native.Nat.{ℕ, zero, suc, ◌+◌, ◌-◌, ◌≤◌, ◌<◌, suc-le-suc}
-use native.Mathlib.Nat.{le_of_suc-le-suc, not-suc-le-zero, zero-lt-suc, lt-suc_self}
+use native.Mathlib.Nat.{le_of_suc-le-suc, not-suc-le-zero, zero-lt-suc}
 use native.Mathlib.Numerals.{add-one}
 use native.Mathlib.Omega.{arith}
-use mathlib.Core.Path.{◌≡◌, refl, sym, ap, ◌∙◌}
+use mathlib.Core.Path.{◌≡◌, refl, ap, ◌∙◌}
 use mathlib.Core.Bool.{true}
-use mathlib.Core.List.{List, [], ◌∷◌, append_assoc}
-use lib.ListN.{length, take, drop, get_or, set, take-append-drop, length-append, length-drop}
-use lib.Seq.{take-nil, take-suc-set, drop-set-lt, drop-cons, take_at, length-take-le}
+use mathlib.Core.List.{List, [], ◌∷◌, ◌++◌}
+use lib.ListN.{length, take, drop, get_or, set, length-append, length-drop}
+use lib.Seq.{take-nil, take_at, length-take-le}
+use Rattle.std.specs.List.{copy_within}
 use Rattle.board.specs.Points.{ascending_from, insert_at, remove_at, insert_row, remove_row}
 use Rattle.board.proofs.points.Keys.{ascending-head, ascending-rest, ascending-cons}
 
 module _ {A : Type 0} where
-  insert-take : (i n : ℕ) (v : A) (a : List A) → i ≤ n → take (suc n) (insert_at i v a) ≡ insert_at i v (take n a)
-  unfolding insert_at
-  insert-take zero n v a h = refl
-  insert-take (suc i) zero v a h = absurd (not-suc-le-zero h)
-  insert-take (suc i) (suc n) v [] h = refl
-  insert-take (suc i) (suc n) v (x ∷ xs) h = ap (λ (r : List A). x ∷ r) (insert-take i n v xs (le_of_suc-le-suc h))
-
-  take-insert : (i : ℕ) (v : A) (a : List A) → i ≤ length a → take i (insert_at i v a) ≡ take i a
-  unfolding insert_at
-  take-insert i v a h = take_at (take i a) (v ∷ drop i a) i (length-take-le i a h)
-
-  remove-take : (i n : ℕ) (a : List A) → i ≤ n → take n (remove_at i a) ≡ remove_at i (take (suc n) a)
-  unfolding remove_at
-  remove-take zero n [] h = take-nil n
-  remove-take zero n (x ∷ xs) h = refl
-  remove-take (suc i) zero a h = absurd (not-suc-le-zero h)
-  remove-take (suc i) (suc n) [] h = refl
-  remove-take (suc i) (suc n) (x ∷ xs) h = ap (λ (r : List A). x ∷ r) (remove-take i n xs (le_of_suc-le-suc h))
-
-  take-remove : (i : ℕ) (a : List A) → i ≤ length a → take i (remove_at i a) ≡ take i a
-  unfolding remove_at
-  take-remove i a h = take_at (take i a) (drop (suc i) a) i (length-take-le i a h)
-
   pub length-insert : (i : ℕ) (v : A) (a : List A) → length (insert_at i v a) ≡ suc (length a)
   unfolding insert_at
   length-insert zero v a = refl
@@ -47,43 +25,35 @@ module _ {A : Type 0} where
   length-remove zero (x ∷ xs) l = refl
   length-remove (suc i) (x ∷ xs) l = ap suc (length-remove i xs (le_of_suc-le-suc l))
 
--- a turn of insert_at: what is carried changes places with what it meets
-pub insert-step : (a : List ℕ) (j c : ℕ) → j < length a → insert_at (j + 1) (get_or a j 0) (set a j c) ≡ insert_at j c a
+-- the elements from i to n copied one place up, and v put into the place that is then free
+inserted : (i k n v : ℕ) (a : List ℕ) → i + k ≡ n → i < length a →
+    set ((take (suc i) a ++ take k (drop i a)) ++ drop (suc n) a) i v ≡ insert_at i v (take n a) ++ drop (suc n) a
 unfolding insert_at
-insert-step a j c h = rw (add-one, take-suc-set a j c, drop-set-lt (suc j) a j c (lt-suc_self j), append_assoc, ← drop-cons a j 0 h)
+inserted i k n v [] e h = absurd (not-suc-le-zero h)
+inserted zero k n v (x ∷ xs) e h = let m : k ≡ n = omega arith in ap (λ (j : ℕ). v ∷ (take j (x ∷ xs) ++ drop n xs)) m
+inserted (suc i) k zero v (x ∷ xs) e h = absurd (omega arith)
+inserted (suc i) k (suc n) v (x ∷ xs) e h = ap (λ (r : List ℕ). x ∷ r) (inserted i k n v xs (omega arith) (le_of_suc-le-suc h))
 
--- after the last turn the row has the element in its place
-pub insert-done : (a a₀ : List ℕ) (n i j v c : ℕ) → j ≡ n + 1 → n < length a → i ≤ n → insert_at j c a ≡ insert_at i v a₀
-    → drop (suc n) a ≡ drop (suc n) a₀ → a ≡ insert_row n i v a₀
+pub row-inserted : (a b : List ℕ) (n i v : ℕ) → i ≤ n → n < length a → b ≡ copy_within a i n (i + 1) → set b i v ≡ insert_row n i v a
 unfolding insert_row
-insert-done a a₀ n i j v c ej l h e d =
-    let e' : insert_at (suc n) c a ≡ insert_at i v a₀ = ap (λ (k : ℕ). insert_at k c a) (sym (ej ∙ add-one n)) ∙ e in
-    let t : take (suc n) a ≡ insert_at i v (take n a₀) = sym (take-insert (suc n) c a l) ∙ ap (take (suc n)) e' ∙ insert-take i n v a₀ h in
-    sym (take-append-drop (suc n) a) ∙ rw (t, d) refl
+row-inserted a b n i v h l e =
+    let p : i + 1 + (n - i) ≡ suc n = omega arith in
+    rw (e, p, add-one) (inserted i (n - i) n v a (omega arith) (omega arith))
 
--- a turn of remove_at: the place that is free moves up by one
-pub remove-step : (a : List ℕ) (j : ℕ) → j + 1 < length a → remove_at (j + 1) (set a j (get_or a (j + 1) 0)) ≡ remove_at j a
+-- the elements above i, up to n, copied one place down
+removed : (i k n : ℕ) (a : List ℕ) → i + suc k ≡ n → take i a ++ take k (drop (suc i) a) ≡ remove_at i (take n a)
 unfolding remove_at
-remove-step a j h =
-    let l : suc j < length a = omega arith in
-    let l' : j < length a = omega arith in
-    rw (
-      add-one,
-      take-suc-set a j (get_or a (suc j) 0) l',
-      drop-set-lt (suc (suc j)) a j (get_or a (suc j) 0) (omega arith),
-      append_assoc,
-      ← drop-cons a (suc j) 0 l,
-    )
+removed i k zero a e = absurd (omega arith)
+removed zero k (suc n) [] e = take-nil k
+removed zero k (suc n) (x ∷ xs) e = let m : k ≡ n = omega arith in ap (λ (j : ℕ). take j xs) m
+removed (suc i) k (suc n) [] e = take-nil k
+removed (suc i) k (suc n) (x ∷ xs) e = ap (λ (r : List ℕ). x ∷ r) (removed i k n xs (omega arith))
 
--- after the last turn the row is without the element
-pub remove-done : (a a₀ : List ℕ) (n i j : ℕ) → i < n → j ≡ n - 1 → n ≤ length a → remove_at j a ≡ remove_at i a₀
-    → drop (n - 1) a ≡ drop (n - 1) a₀ → a ≡ remove_row n i a₀
+pub row-removed : (a b : List ℕ) (n i : ℕ) → i < n → b ≡ copy_within a (i + 1) n i → b ≡ remove_row n i a
 unfolding remove_row
-remove-done a a₀ n i j h ej l e d =
-    let en : n ≡ suc j = omega arith in
-    let t : take j a ≡ remove_at i (take (suc j) a₀) = sym (take-remove j a (omega arith)) ∙ ap (take j) e ∙ remove-take i j a₀ (omega arith) in
-    let d' : drop j a ≡ drop j a₀ = rw ej d in
-    sym (take-append-drop j a) ∙ rw (← ej, en, t, d') refl
+row-removed a b n i h e =
+    let p : i + (n - suc i) ≡ n - 1 = omega arith in
+    e ∙ rw (add-one, p) (ap (λ (r : List ℕ). r ++ drop (n - 1) a) (removed i (n - suc i) n a (omega arith)))
 
 -- ---- the elements that count afterwards, and the length of the row
 

@@ -11,7 +11,7 @@ use lib.Seq.{length-take-le, get_or-take, get_or-set_same, get_or-set_other, tak
 use lib.Dec.{ltb}
 use borrow.Author.Tests.{lt-ltb, le-ltb, ltb-true, ltb-false}
 use Rattle.board.specs.declared.points.Points.{Points}
-use Rattle.board.specs.declared.points.Stored.{Stored}
+use Rattle.board.specs.Points.{Stored}
 use Rattle.board.specs.Points.{point_most, ascending_from, has_key, first_from, insert_at, remove_at, insert_row, remove_row, info_at, keys_of, infos_of, replaced, added, stored_in, dropped_from}
 use Rattle.track.proofs.Tests.{cond_cases}
 use Rattle.board.proofs.points.Rows.{insert-row-take, insert-row-length, remove-row-take, remove-row-length, ascending-insert, ascending-remove}

@@ -1,33 +1,32 @@
 -- The acts of a track in a call, and in a list of calls, are a path of the automaton.
+use Rattle.std.specs.Prelude.{Option, Some, None}
 use Prim.Native.Nat.{ℕ, zero, suc, ◌+◌}
 use mathlib.Core.Path.{◌≡◌, refl, sym, ◌∙◌, ap, subst}
 use mathlib.Core.Logic.{⊎_elim}
 use mathlib.Core.Bool.{Bool, true, false, cond}
 use mathlib.Core.List.{List, [], ◌∷◌}
-use mathlib.Core.Option.{Option, none, some}
 use native.Mathlib.Omega.{arith}
 use lib.Dec.{eqb, leb}
 use lib.IntN.{ℤ}
 use lib.ListN.{length, set}
 use lib.Seq.{get_or-set_same, get_or-set_other}
 use borrow.Author.Tests.{eqb-true, eqb-false}
+use Rattle.track.specs.declared.refusal.Refusal.{Refusal}
+use Rattle.track.specs.declared.refusal.Refusal.TheVariants as refusal
+use Rattle.track.specs.Refusal.{number_of}
 use Rattle.track.specs.declared.Track.{Track}
-use Rattle.track.specs.declared.grid.Decision.{Decision}
-use Rattle.track.specs.declared.grid.Decision.TheVariants as decision
-use Rattle.track.specs.declared.number.Natural.{Natural}
-use Rattle.track.specs.declared.number.Natural.TheVariants as natural
 use Rattle.track.specs.declared.setup.Change.{Change}
 use Rattle.track.specs.declared.setup.Change.TheVariants as change
-use Rattle.track.specs.declared.setup.Changed.{Changed}
+use Rattle.track.specs.Setup.{Changed}
 use Rattle.track.specs.Rule.{STOPPED, new_track, entered}
 use Rattle.track.specs.Grid.{PLAY, PAUSE, RESUME, STOP, grid_of}
-use Rattle.track.specs.Number.{natural_of, on_natural}
+use Rattle.track.specs.Number.{natural_of, on_some}
 use Rattle.track.specs.Setup.{settled, permits, set_by, changed_by}
 use Rattle.track.proofs.Tests.{cond_cases, cond_yes}
 use Rattle.track.proofs.Setups.{changed-keeps}
 use Rattle.board.proofs.points.Keys.{same_or_not}
 use Rattle.board.specs.declared.Board.{Board}
-use Rattle.board.specs.declared.setup.Outcome.{Outcome}
+use Rattle.board.specs.Setup.{Outcome}
 use Rattle.board.specs.Board.{track_at, no_track, is_present, unbroken_test, found_in, Unbroken}
 use Rattle.board.specs.Setup.{refused, board_with, put_track, set_up, add_track, set_master}
 use Rattle.board.proofs.rules.Broken.{present-small}
@@ -51,31 +50,31 @@ use Rattle.board.proofs.premo.Paths.{path-ends, path-append}
 use Rattle.board.proofs.premo.Ticks.{Led, grid-led, entered-mode, tick-path}
 
 -- the number of a track that is found
-found_number : (present : ℕ) (track : ℤ) {j : ℕ} → found_in present track ≡ natural.In j → natural_of track 0 15 ≡ natural.In j
+found_number : (present : ℕ) (track : ℤ) {j : ℕ} → found_in present track ≡ Some j → natural_of track 0 15 ≡ Some j
 unfolding found_in
 found_number present track {j} = go (natural_of track 0 15)
   where
-    go : (n : Natural) → on_natural n (λ k. cond (is_present present k) (natural.In k) natural.Outside) natural.Outside ≡ natural.In j → n ≡ natural.In j
-    go (natural.In k) e = cond_cases (λ (n : Natural). n ≡ natural.In j → natural.In k ≡ natural.In j) (is_present present k) (λ _ e. e) (λ _ e. cc) e
-    go natural.Outside e = e
+    go : (n : Option ℕ) → on_some n (λ k. cond (is_present present k) (Some k) None) None ≡ Some j → n ≡ Some j
+    go (Some k) e = cond_cases (λ (n : Option ℕ). n ≡ Some j → Some k ≡ Some j) (is_present present k) (λ _ e. e) (λ _ e. cc) e
+    go None e = e
 
 -- a mode call is refused, or takes the present track of its number where the grid says
-pub result-cases : (b : Board) (n : ℕ) (track : ℤ) (c : ℕ) (P : ModeResult → Type 0) → ((k : ℕ) → P (declined k b)) →
-    ((j mode : ℕ) → natural_of track 0 15 ≡ natural.In j → is_present b.present j ≡ true
-    → grid_of (track_at b.tracks j).mode c ≡ decision.Goes mode → P (changing b j mode)) → P (mode_result b n track c)
+pub result-cases : (b : Board) (n : ℕ) (track : ℤ) (c : ℕ) (P : ModeResult → Type 0) → ((e : Refusal) → P (declined (number_of e) b)) →
+    ((j mode : ℕ) → natural_of track 0 15 ≡ Some j → is_present b.present j ≡ true
+    → grid_of (track_at b.tracks j).mode c ≡ Some mode → P (changing b j mode)) → P (mode_result b n track c)
 unfolding mode_result decided changes_to
 result-cases b n track c P declines does =
     cond_cases P (unbroken_test b)
     (λ _. cond_cases P (leb b.held (capacity n))
     (λ _. by-natural P (found_in b.present track) _ (declined 1 b)
     (λ j e. go j (found_number b.present track e) (found_in_lem b.present track e) (grid_of (track_at b.tracks j).mode c) refl)
-    (declines 1)) (λ _. declines 7)) (λ _. declines 3)
+    (declines refusal.Track)) (λ _. declines refusal.Capacity)) (λ _. declines refusal.Value)
   where
-    go : (j : ℕ) → natural_of track 0 15 ≡ natural.In j → is_present b.present j ≡ true → (d : Decision)
+    go : (j : ℕ) → natural_of track 0 15 ≡ Some j → is_present b.present j ≡ true → (d : Option ℕ)
         → grid_of (track_at b.tracks j).mode c ≡ d → P (decided b n j d)
-    go j e h (decision.Goes mode) g =
-        cond_cases P (leb (b.held + length (call_records b j mode)) (capacity n)) (λ _. does j mode e h g) (λ _. declines 8)
-    go j e h decision.Refused g = declines 2
+    go j e h (Some mode) g =
+        cond_cases P (leb (b.held + length (call_records b j mode)) (capacity n)) (λ _. does j mode e h g) (λ _. declines refusal.Room)
+    go j e h None g = declines refusal.Mode
 
 pub present-mode : (b : Board) (i : ℕ) → is_present b.present i ≡ true → (track_at b.tracks i).mode ≡ mode_of b i
 present-mode b i h = cond_yes _ _ h refl
@@ -114,11 +113,11 @@ module _ (b : Board) (whole : Unbroken b) (i : ℕ) where
       (at_set (λ (t : Track). t.mode ≡ (track_at b.tracks i).mode) b.tracks j i u refl h)
 
   -- a call on the present track j: its acts if that is track i, and none otherwise
-  number-path : (track : ℤ) (j : ℕ) (xs : List Act) (m : ℕ) → natural_of track 0 15 ≡ natural.In j
+  number-path : (track : ℤ) (j : ℕ) (xs : List Act) (m : ℕ) → natural_of track 0 15 ≡ Some j
       → (j ≡ i → Path mode xs m) → ((i ≡ j → ⊥) → m ≡ mode) → Path mode (cond (is_number i track) xs []) m
   unfolding Path
   number-path track j xs m e here there =
-      subst (λ (z : Natural). Path mode (cond (on_natural z (λ k. eqb k i) false) xs []) m) (sym e) (go (eqb j i) refl)
+      subst (λ (z : Option ℕ). Path mode (cond (on_some z (λ k. eqb k i) false) xs []) m) (sym e) (go (eqb j i) refl)
     where
       go : (same : Bool) → eqb j i ≡ same → Path mode (cond same xs []) m
       go true q = here (eqb-true j i q)
@@ -183,7 +182,7 @@ module _ (b : Board) (whole : Unbroken b) (i : ℕ) where
       Traced : Outcome → Type 0
       Traced o = Path mode (cond (is_number i track) (cond (is_refusal (answered o.answer)) (exc ∷ []) (change_acts c)) []) (mode_of o.board i)
 
-      at : (j : ℕ) → natural_of track 0 15 ≡ natural.In j → is_present b.present j ≡ true → Traced (put_track b j (changed_by (track_at b.tracks j) c))
+      at : (j : ℕ) → natural_of track 0 15 ≡ Some j → is_present b.present j ≡ true → Traced (put_track b j (changed_by (track_at b.tracks j) c))
       at j e h =
           let t = track_at b.tracks j in
           let k = changed-keeps t (whole.tracks j h).valid c in
@@ -254,11 +253,11 @@ module _ (i : ℕ) where
     where
       go : (o : Option Stop) → halts w ≡ o → (Unbroken (steps w).board → From (steps w) (ticks_acts i (passed halts steps n (steps w))) (ticks halts steps n (steps w)).end)
           → From w (ticks_acts i (passed halts steps (suc n) w)) (ticks halts steps (suc n) w).end
-      go none e more =
+      go None e more =
           rw (ticks-on halts steps n w e, passed_on halts steps n w e)
           (path-append _ (mode_of (steps w).board i) _ (tick_acts i w.board) _ (tick-path w.board h i)
           (more (tick-whole w.board h _ (halt-none (length w.log) w.board e).0)))
-      go (some x) e more = rw (ticks-off halts steps n w x e, passed-off halts steps n w x e) refl
+      go (Some x) e more = rw (ticks-off halts steps n w x e, passed-off halts steps n w x e) refl
 
   part-path : (p : Part Call) (w : World Board) → Unbroken w.board → From w (call_acts i p w) (perform gridstep p w).left
   unfolding call_acts ticks_acts Path
@@ -266,13 +265,13 @@ module _ (i : ℕ) where
   part-path (run n) w h = go (w-bar gridstep w) refl
     where
       go : (o : Option ℕ) → w-bar gridstep w ≡ o → From w (call_acts i (run n) w) (perform gridstep (run n) w).left
-      go none e =
+      go None e =
           rw (
             advance-in halts steps (w-bar gridstep) stopped_by does.refused n w e,
             crossed-in halts steps (w-bar gridstep) stopped_by does.refused n w e,
           )
           (ticks-path n w h)
-      go (some k) e =
+      go (Some k) e =
           rw (
             advance-out halts steps (w-bar gridstep) stopped_by does.refused n w k e,
             crossed-out halts steps (w-bar gridstep) stopped_by does.refused n w k e,

@@ -1,4 +1,5 @@
 -- The mode calls on a present track that act, and those that are refused.
+use Rattle.std.specs.Prelude.{Some, None}
 use Prim.Native.Nat.{ℕ, ◌+◌, zero-le}
 use mathlib.Core.Path.{◌≡◌, refl, sym, ◌∙◌, ap}
 use mathlib.Core.Bool.{true}
@@ -9,8 +10,6 @@ use lib.ListN.{length}
 use lib.Seq.{get_or-set_same}
 use borrow.Author.Tests.{eqb-true, eq-eqb, le-leb}
 use Rattle.track.specs.declared.Track.{Track}
-use Rattle.track.specs.declared.grid.Decision.TheVariants as decision
-use Rattle.track.specs.declared.number.Natural.TheVariants as natural
 use Rattle.track.specs.Rule.{STOPPED, PLAYING, WAITING, stopped, entered}
 use Rattle.track.specs.Grid.{PLAY, RESUME, STOP, grid_of}
 use Rattle.track.specs.Number.{natural_of}
@@ -47,22 +46,22 @@ module _ (w : World Board) (whole : Unbroken w.board) (i : ℕ) (present : is_pr
   abbrev chosen : ℕ → ModeResult
   chosen c = mode_result w.board (length w.log) (pos i) c
 
-  number : natural_of (pos i) 0 15 ≡ natural.In i
+  number : natural_of (pos i) 0 15 ≡ Some i
   number = natural-of i 0 15 zero-le (omega (arith, present-small b.present i present))
 
   on : is_number i (pos i) ≡ true
   on = rw number (eq-eqb i i refl)
 
-  found : found_in b.present (pos i) ≡ natural.In i
+  found : found_in b.present (pos i) ≡ Some i
   unfolding found_in
   found = rw (number, present)
 
   -- what the grid lets act is accepted, if its record fits
-  goes : (c m : ℕ) → grid_of t.mode c ≡ decision.Goes m → Fits i m w → chosen c ≡ changing b i m
+  goes : (c m : ℕ) → grid_of t.mode c ≡ Some m → Fits i m w → chosen c ≡ changing b i m
   goes c m g fits = mode-goes b whole n (pos i) i c m found g fits
 
   -- and is not refused 2, whether it fits or not
-  not-2 : (c m : ℕ) → grid_of t.mode c ≡ decision.Goes m → answered (chosen c).answer ≡ refused 2 → ⊥
+  not-2 : (c m : ℕ) → grid_of t.mode c ≡ Some m → answered (chosen c).answer ≡ refused 2 → ⊥
   unfolding mode_result decided changes_to
   not-2 c m g =
       rw (unbroken-is b whole, found, g)
@@ -75,7 +74,7 @@ module _ (w : World Board) (whole : Unbroken w.board) (i : ℕ) (present : is_pr
       Not2 r = answered r.answer ≡ refused 2 → ⊥
 
   -- what the grid does not let act is refused
-  refuses : (c : ℕ) → grid_of t.mode c ≡ decision.Refused
+  refuses : (c : ℕ) → grid_of t.mode c ≡ None
       → (is_refusal (answered (chosen c).answer) ≡ true) × (wrote gridstep (made_by (chosen c)) w ≡ w)
   refuses c g =
       result-cases b n (pos i) c (λ (m : ModeResult). (is_refusal (answered m.answer) ≡ true) × (wrote gridstep (made_by m) w ≡ w))
@@ -94,7 +93,7 @@ module _ (w : World Board) (whole : Unbroken w.board) (i : ℕ) (present : is_pr
       ((does (call.Resume (pos i)) w).answer ≡ refused 2 → ⊥) × (Fits i PLAYING w → Brings i (call.Resume (pos i)) do_resume w)
   unfolding grid_of offers run_count call_acts says_of is_on deed_of
   resumes o =
-      let g : grid_of t.mode RESUME ≡ decision.Goes PLAYING = sym (cond_yes _ _ o refl) in
+      let g : grid_of t.mode RESUME ≡ Some PLAYING = sym (cond_yes _ _ o refl) in
       (not-2 RESUME PLAYING g, λ fits. rw (on, goes RESUME PLAYING g fits))
 
   -- a stop acts in every mode
@@ -104,7 +103,7 @@ module _ (w : World Board) (whole : Unbroken w.board) (i : ℕ) (present : is_pr
   unfolding grid_of entered run_count call_acts says_of makes_of is_on deed_of
   stops =
       let valid = (whole.tracks i present).valid in
-      let g : grid_of t.mode STOP ≡ decision.Goes STOPPED = sym (cond_yes _ _ (le-leb t.mode WAITING valid.mode) refl) in
+      let g : grid_of t.mode STOP ≡ Some STOPPED = sym (cond_yes _ _ (le-leb t.mode WAITING valid.mode) refl) in
       let l = present-small b.present i present in (
         not-2 STOP STOPPED g,
         λ fits.

@@ -1,4 +1,5 @@
 -- The acts of a track in a tick are a path of the automaton.
+use Rattle.std.specs.Prelude.{Option, Some, None}
 use Prim.Native.Nat.{ℕ, suc, ◌+◌, ◌≤◌, ◌<◌}
 use mathlib.Core.Path.{◌≡◌, refl, sym, ◌∙◌, ap, subst}
 use mathlib.Core.Bool.{Bool, true, false, cond, ◌&&◌, ◌||◌, true≢false, false≢true}
@@ -10,8 +11,6 @@ use lib.ListN.{length, set, length-set}
 use lib.Seq.{get_or-set_same, get_or-set_other}
 use borrow.Author.Tests.{eqb-true, eqb-false, eq-eqb}
 use Rattle.track.specs.declared.Track.{Track}
-use Rattle.track.specs.declared.grid.Decision.{Decision}
-use Rattle.track.specs.declared.grid.Decision.TheVariants as decision
 use Rattle.track.specs.Rule.{STOPPED, PLAYING, PAUSED, WAITING, stopped, with_remainder, entered}
 use Rattle.track.specs.Grid.{PLAY, PAUSE, RESUME, STOP, grid_of}
 use Rattle.track.specs.Walk.{arrival, stops, visited, step}
@@ -41,9 +40,9 @@ use Rattle.board.proofs.premo.Paths.{path-append}
 -- ---- the mode grid
 
 -- what the grid lets act is offered, and leads where the grid says
-abbrev pub Led : ℕ → ℕ → Decision → Type 0
-Led mode c (decision.Goes m) = (offers mode (act_of c) ≡ true) × (after mode (act_of c) ≡ m)
-Led mode c decision.Refused = Unit {0}
+abbrev pub Led : ℕ → ℕ → Option ℕ → Type 0
+Led mode c (Some m) = (offers mode (act_of c) ≡ true) × (after mode (act_of c) ≡ m)
+Led mode c None = Unit {0}
 
 pub grid-led : (mode c : ℕ) → Led mode c (grid_of mode c)
 unfolding grid_of offers after act_of
@@ -53,7 +52,7 @@ grid-led mode c =
     (λ _. cond_cases (Led mode c) (eqb c RESUME && (eqb mode PAUSED || eqb mode WAITING)) (at RESUME do_resume PLAYING refl refl)
     (λ _. cond_cases (Led mode c) (eqb c STOP && leb mode WAITING) (at STOP do_stop STOPPED refl refl) (λ _. tt))))
   where
-    at : (k : ℕ) (a : Act) (m : ℕ) → act_of k ≡ a → after mode a ≡ m → (eqb c k && offers mode a) ≡ true → Led mode c (decision.Goes m)
+    at : (k : ℕ) (a : Act) (m : ℕ) → act_of k ≡ a → after mode a ≡ m → (eqb c k && offers mode a) ≡ true → Led mode c (Some m)
     at k a m ea em e =
         let h = both (eqb c k) (offers mode a) e in
         let is : act_of c ≡ a = ap act_of (eqb-true c k h.0) ∙ ea in
@@ -183,16 +182,16 @@ module _ (b : Board) where
 
 -- ---- the commands
 
-ruled-path : (t : Track) (c : ℕ) (r : Decision) → Led t.mode c r → Path t.mode (ruled c r ∷ []) (commanded t r).mode
+ruled-path : (t : Track) (c : ℕ) (r : Option ℕ) → Led t.mode c r → Path t.mode (ruled c r ∷ []) (commanded t r).mode
 unfolding commanded offers after Path
-ruled-path t c (decision.Goes m) h = (h.0, h.1 ∙ sym (entered-mode t m))
-ruled-path t c decision.Refused h = (refl, refl)
+ruled-path t c (Some m) h = (h.0, h.1 ∙ sym (entered-mode t m))
+ruled-path t c None h = (refl, refl)
 
 obey-path : (d : ℕ) (t : Track) → Path t.mode (obey_acts d t) (obeyed d t).mode
 unfolding obey_acts Path
 obey-path d t = go (eqb (command_of d) 0)
   where
-    r : Decision
+    r : Option ℕ
     r = grid_of t.mode (command_of d)
 
     go : (b : Bool) → Path t.mode (cond b [] (ruled (command_of d) r ∷ [])) (cond b t (commanded t r)).mode

@@ -16,10 +16,10 @@ use Rattle.track.specs.Stride.{stride}
 use Rattle.track.specs.Leap.{leap}
 use Rattle.track.proofs.Leaps.{leap-zero, leap-add}
 use Rattle.board.specs.declared.Board.{Board}
-use Rattle.board.specs.Points.{keys_of, infos_of, first_from, point_of, track_count}
+use Rattle.board.specs.Points.{keys_of, infos_of, first_from, point_of, track_count, NonzeroInfos, PointsRule}
 use Rattle.board.specs.Board.{no_track, track_at, is_present, Unbroken}
 use Rattle.board.specs.Tick.{members, play_bit, playing_word}
-use Rattle.board.specs.Quiet.{NonzeroInfos, CanLeap, Leapable, leap_into, where_set, leap_tracks}
+use Rattle.board.specs.Quiet.{CanLeap, Leapable, leap_into, where_set, leap_tracks}
 use Rattle.board.proofs.rules.Broken.{present-bit, half-bit}
 use Rattle.board.proofs.points.Keys.{has_first}
 use Rattle.board.proofs.points.Table.{info-has}
@@ -177,7 +177,7 @@ module _ (b : Board) (u : Unbroken b) where
 
   -- an event is at least 1, so that an info of 0 says that there is no point
   pub unbroken-infos : NonzeroInfos (keys_of b.points) (infos_of b.points)
-  unfolding NonzeroInfos point_of
+  unfolding point_of
   unbroken-infos k h z =
       let n = b.points.count in
       let ks = keys_of b.points in
@@ -190,3 +190,7 @@ module _ (b : Board) (u : Unbroken b) where
       let g = get_or-take n b.points.infos j 0 l in
       let r = (u.points j l).event.0 in
       omega arith
+
+  -- its points are as lookups rely on them
+  pub unbroken-points : PointsRule b.points
+  unbroken-points = record { keys = u.shape.keys; infos = u.shape.infos; count = u.count; order = u.order; nonzero = unbroken-infos }

@@ -16,7 +16,7 @@ use Rattle.board.specs.Board.{track_at, is_present, Unbroken}
 use Rattle.board.specs.Tick.{members, play_bit, follow_word}
 use Rattle.board.specs.Replay.{Each}
 use Rattle.board.specs.Steady.{goes, SteadyFor}
-use Rattle.board.specs.Quiet.{Some, master_of, WithMaster, where_set, leap_tracks}
+use Rattle.board.specs.Quiet.{AnyOf, master_of, WithMaster, where_set, leap_tracks}
 use Rattle.board.proofs.rules.Broken.{present-set, half-bit, kept_at}
 use Rattle.board.proofs.follow.Following.{Still, each-follower}
 use Rattle.board.proofs.follow.Rules.{kept-number, kept-lead}
@@ -70,9 +70,9 @@ module _ (present : ℕ) (ts : List Track) where
 
   -- a band that does not stay in the tick behind a stretch
   pub unsteady-changes : (n : ℕ) (fs : List ℕ) → Mastered present ts fs
-      → Some (λ i. judged (goes n (track_at ts i)) (goes n (master_of ts i)) ≡ (track_at ts i).band → ⊥) fs
-      → Some (λ i. Still (leap_tracks n present ts) i → ⊥) fs
-  unfolding Each Some
+      → AnyOf (λ i. judged (goes n (track_at ts i)) (goes n (master_of ts i)) ≡ (track_at ts i).band → ⊥) fs
+      → AnyOf (λ i. Still (leap_tracks n present ts) i → ⊥) fs
+  unfolding Each AnyOf
   unsteady-changes n [] m s = s
   unsteady-changes n (i ∷ fs) m (inl s) =
       inl (λ h. s (sym (judged-at n present ts i m.0.0 m.0.1) ∙ h ∙ (leapt-follower n present ts i).band))
@@ -81,20 +81,20 @@ module _ (present : ℕ) (ts : List Track) where
 -- ---- lists of numbers
 
 -- a test that all pass, or that one fails
-pub all-or-one : (f : ℕ → Bool) (is : List ℕ) → Each (λ i. f i ≡ false) is ⊎ Some (λ i. f i ≡ true) is
-unfolding Each Some
+pub all-or-one : (f : ℕ → Bool) (is : List ℕ) → Each (λ i. f i ≡ false) is ⊎ AnyOf (λ i. f i ≡ true) is
+unfolding Each AnyOf
 all-or-one f [] = inl tt
 all-or-one f (i ∷ is) = go (f i) refl (all-or-one f is)
   where
-    go : (b : Bool) → f i ≡ b → Each (λ i. f i ≡ false) is ⊎ Some (λ i. f i ≡ true) is
-        → ((f i ≡ false) × Each (λ i. f i ≡ false) is) ⊎ ((f i ≡ true) ⊎ Some (λ i. f i ≡ true) is)
+    go : (b : Bool) → f i ≡ b → Each (λ i. f i ≡ false) is ⊎ AnyOf (λ i. f i ≡ true) is
+        → ((f i ≡ false) × Each (λ i. f i ≡ false) is) ⊎ ((f i ≡ true) ⊎ AnyOf (λ i. f i ≡ true) is)
     go true e r = inr (inl e)
     go false e (inl a) = inl (e, a)
     go false e (inr s) = inr (inr s)
 
 -- one of two ways for some number is one way for some number, or the other
-pub some-either : (P Q : ℕ → Type 0) (is : List ℕ) → Some (λ i. P i ⊎ Q i) is → Some P is ⊎ Some Q is
-unfolding Some
+pub some-either : (P Q : ℕ → Type 0) (is : List ℕ) → AnyOf (λ i. P i ⊎ Q i) is → AnyOf P is ⊎ AnyOf Q is
+unfolding AnyOf
 some-either P Q [] s = absurd s
 some-either P Q (i ∷ is) (inl (inl p)) = inl (inl p)
 some-either P Q (i ∷ is) (inl (inr q)) = inr (inl q)

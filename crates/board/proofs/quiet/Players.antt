@@ -19,7 +19,7 @@ use Rattle.board.proofs.rules.Broken.{present-bit, present-small, present-set, h
 use Rattle.board.specs.Tick.{keep, members_from, members, play_bit, playing_word}
 use Rattle.board.specs.Replay.{Each}
 use Rattle.board.proofs.tick.PlayingLaws.{bit-small}
-use Rattle.board.specs.Quiet.{Some}
+use Rattle.board.specs.Quiet.{AnyOf}
 
 -- the playing tracks of ts, the first of which has the number n; `present` is the word of those present
 unfoldable pub EachPlaying : (ℕ → Track → Type 0) → ℕ → ℕ → List Track → Type 0
@@ -115,16 +115,16 @@ module _ (P : ℕ → Track → Type 0) where
     head-each zero e ih a = ih a.1
     head-each (suc d) e ih a = (rw read (a.0 (omega arith)), ih a.1)
 
-    some-head : (d : ℕ) → play_bit (present % 2) t ≡ d → (Some (On (pre ++ t ∷ ts)) rest → SomePlaying P (suc n) (present / 2) ts)
-        → Some (On (pre ++ t ∷ ts)) (keep d n rest) → SomePlaying P n present (t ∷ ts)
-    unfolding Some SomePlaying
+    some-head : (d : ℕ) → play_bit (present % 2) t ≡ d → (AnyOf (On (pre ++ t ∷ ts)) rest → SomePlaying P (suc n) (present / 2) ts)
+        → AnyOf (On (pre ++ t ∷ ts)) (keep d n rest) → SomePlaying P n present (t ∷ ts)
+    unfolding AnyOf SomePlaying
     some-head zero e ih a = inr (ih a)
     some-head (suc d) e ih (inl a) = inl (omega arith, rw read at a)
     some-head (suc d) e ih (inr a) = inr (ih a)
 
-    head-some : (d : ℕ) → play_bit (present % 2) t ≡ d → (SomePlaying P (suc n) (present / 2) ts → Some (On (pre ++ t ∷ ts)) rest)
-        → SomePlaying P n present (t ∷ ts) → Some (On (pre ++ t ∷ ts)) (keep d n rest)
-    unfolding Some SomePlaying
+    head-some : (d : ℕ) → play_bit (present % 2) t ≡ d → (SomePlaying P (suc n) (present / 2) ts → AnyOf (On (pre ++ t ∷ ts)) rest)
+        → SomePlaying P n present (t ∷ ts) → AnyOf (On (pre ++ t ∷ ts)) (keep d n rest)
+    unfolding AnyOf SomePlaying
     head-some zero e ih (inl a) = absurd (omega arith)
     head-some zero e ih (inr a) = ih a
     head-some (suc d) e ih (inl a) = inl (rw read a.1)
@@ -144,14 +144,14 @@ module _ (P : ℕ → Track → Type 0) where
       head-each n present pre t ts l (play_bit (present % 2) t) refl
       (λ b. rw (append_snoc pre t ts) at (list-each (suc n) (present / 2) (pre ++ (t ∷ [])) ts (longer pre t l) b)) a
 
-  some-list : (n present : ℕ) (pre ts : List Track) → length pre ≡ n → Some (On (pre ++ ts)) (players n present ts) → SomePlaying P n present ts
-  unfolding players Some
+  some-list : (n present : ℕ) (pre ts : List Track) → length pre ≡ n → AnyOf (On (pre ++ ts)) (players n present ts) → SomePlaying P n present ts
+  unfolding players AnyOf
   some-list n present pre [] l a = absurd a
   some-list n present pre (t ∷ ts) l a =
       some-head n present pre t ts l (play_bit (present % 2) t) refl
       (λ b. some-list (suc n) (present / 2) (pre ++ (t ∷ [])) ts (longer pre t l) (rw (append_snoc pre t ts) b)) a
 
-  list-some : (n present : ℕ) (pre ts : List Track) → length pre ≡ n → SomePlaying P n present ts → Some (On (pre ++ ts)) (players n present ts)
+  list-some : (n present : ℕ) (pre ts : List Track) → length pre ≡ n → SomePlaying P n present ts → AnyOf (On (pre ++ ts)) (players n present ts)
   unfolding players SomePlaying
   list-some n present pre [] l a = absurd a
   list-some n present pre (t ∷ ts) l a =
@@ -168,11 +168,11 @@ module _ (P : ℕ → Track → Type 0) where
     each_member a = rw (members-playing present ts l) (list-each 0 present [] ts refl a)
 
     -- what holds of some member's track holds of some playing track
-    pub some-playing : Some (On ts) (members (playing_word present ts)) → SomePlaying P 0 present ts
+    pub some-playing : AnyOf (On ts) (members (playing_word present ts)) → SomePlaying P 0 present ts
     some-playing a = some-list 0 present [] ts refl (rw (members-playing present ts l) at a)
 
     -- and the other way
-    pub some-member : SomePlaying P 0 present ts → Some (On ts) (members (playing_word present ts))
+    pub some-member : SomePlaying P 0 present ts → AnyOf (On ts) (members (playing_word present ts))
     some-member a = rw (members-playing present ts l) (list-some 0 present [] ts refl a)
 
 -- ---- the playing tracks are present
@@ -211,7 +211,7 @@ one-playing Q n word (suc i) (t ∷ ts) l e m q =
 
 -- and the other way: a track that is present and PLAYING is a member
 pub playing-member : (present i : ℕ) (ts : List Track) → length ts ≡ track_count → is_present present i ≡ true → (track_at ts i).mode ≡ PLAYING →
-    Some (λ k. k ≡ i) (members (playing_word present ts))
+    AnyOf (λ k. k ≡ i) (members (playing_word present ts))
 playing-member present i ts l p m =
     let small = present-small present i p in
     some-member (λ k t. k ≡ i) present ts l (one-playing (λ k. k ≡ i) 0 present i ts (omega arith) (present-set present i p) m (zero-add i))

@@ -1,4 +1,5 @@
 -- The steps of a track to the nearest of its points, and to the first that is loud; the ticks before that one.
+use Rattle.std.specs.Prelude.{Option, Some, None}
 use Prim.Native.Nat.{ℕ, suc, ◌+◌, ◌-◌, ◌%◌, ◌≤◌, ◌<◌, min, zero-le}
 use mathlib.Core.Path.{◌≡◌, refl, sym, ap, ◌∙◌}
 use mathlib.Core.Logic.{⊎_elim}
@@ -17,10 +18,8 @@ use Rattle.track.proofs.Tests.{refuted}
 use Rattle.track.proofs.Arrivals.{next_small, place-next, home-inside}
 use Rattle.track.proofs.Strides.{stride-arrival, stride-zero, stride-runs, stride-stops, phase-small, place-phase, first-arrival, steps-small, running-before, running-exact}
 use Rattle.track.proofs.Leaps.{leap-arrival, leap-stops, steps-suc, before_small, before-none, before-made, before-moves, before-late}
-use Rattle.board.specs.declared.points.Near.{Near}
-use Rattle.board.specs.declared.points.Near.TheVariants.{At, Nothing}
-use Rattle.board.specs.Points.{key, ascending_from, has_key, info_at, nearest}
-use Rattle.board.specs.Quiet.{NonzeroInfos, reaches, loud_step, ends_quiet, ToPoint, QuietSteps, QuietTicks}
+use Rattle.board.specs.Points.{key, ascending_from, has_key, info_at, nearest, NonzeroInfos}
+use Rattle.board.specs.Quiet.{reaches, loud_step, ends_quiet, ToPoint, QuietSteps, QuietTicks}
 use Rattle.board.proofs.points.Keys.{lt-or-ge}
 use Rattle.board.proofs.points.Table.{info-none}
 use Rattle.board.proofs.points.Ranges.{Nearest, nearest-is}
@@ -36,7 +35,6 @@ info-some k ks ds e n = go (has_key k ks) refl
     go false h = absurd (n (e ∙ info-none k ks ds h))
 
 pub info-zero : (k : ℕ) (ks ds : List ℕ) → NonzeroInfos ks ds → {d : ℕ} → d ≡ info_at k ks ds → d ≡ 0 → has_key k ks ≡ false
-unfolding NonzeroInfos
 info-zero k ks ds tell e z = sym (refuted (has_key k ks) (λ h. tell k h (sym e ∙ z)))
 
 -- the nearest point further on than the location p from home, counted from home
@@ -47,8 +45,8 @@ record Onward (ks : List ℕ) (i start end : ℕ) (backward : Bool) (p c : ℕ) 
   pub on : p < cond backward (end - c) (c - start)
   pub none : (q : ℕ) → p < q → q < cond backward (end - c) (c - start) → has_key (key i (cond backward (end - q) (start + q))) ks ≡ false
 
-module _ (ks : List ℕ) (i start end : ℕ) (order : start < end) (r : Near) where
-  onward : (b : Bool) (p l : ℕ) → p ≤ end - start → l ≡ cond b (end - p) (start + p) → Nearest b i l start end ks r → (c : Coordinate) → r ≡ At c
+module _ (ks : List ℕ) (i start end : ℕ) (order : start < end) (r : Option Coordinate) where
+  onward : (b : Bool) (p l : ℕ) → p ≤ end - start → l ≡ cond b (end - p) (start + p) → Nearest b i l start end ks r → (c : Coordinate) → r ≡ Some c
       → Onward ks i start end b p c.0
   onward true p l s e n c q =
       let f = n.further c q in
@@ -69,7 +67,7 @@ module _ (ks : List ℕ) (i start end : ℕ) (order : start < end) (r : Near) wh
         none = λ x a b. n.passed c q (start + x) (omega arith, omega arith);
       }
 
-  onward-none : (b : Bool) (p l : ℕ) → p ≤ end - start → l ≡ cond b (end - p) (start + p) → Nearest b i l start end ks r → r ≡ Nothing
+  onward-none : (b : Bool) (p l : ℕ) → p ≤ end - start → l ≡ cond b (end - p) (start + p) → Nearest b i l start end ks r → r ≡ None
       → (q : ℕ) → p < q → q < end - start + 1 → has_key (key i (cond b (end - q) (start + q))) ks ≡ false
   onward-none true p l s e n z q a h = n.none z (end - q) (omega arith, omega arith)
   onward-none false p l s e n z q a h = n.none z (start + q) (omega arith, omega arith)
@@ -146,7 +144,7 @@ pub record Sought (ks ds : List ℕ) (t : Track) : Type 0 where
   pub ascending : ascending_from 0 ks ≡ true
   pub telling : NonzeroInfos ks ds
 
-pub record Looked (ks ds : List ℕ) (i : ℕ) (t : Track) (l d : ℕ) (r : Near) : Type 0 where
+pub record Looked (ks ds : List ℕ) (i : ℕ) (t : Track) (l d : ℕ) (r : Option Coordinate) : Type 0 where
   pub info : d ≡ info_at (key i l) ks ds
   pub near : r ≡ nearest (backward t) i l t.start.0 t.end.0 ks
 
@@ -161,17 +159,17 @@ module _ {ks ds : List ℕ} {t : Track} (s : Sought ks ds t) where
       go true e = simp e (omega arith)
       go false e = simp e (omega arith)
 
-  module _ {i l d : ℕ} {near : Near} (f : Looked ks ds i t l d near) (p : ℕ) (ep : p < span t) (el : l ≡ place t p) where
+  module _ {i l d : ℕ} {near : Option Coordinate} (f : Looked ks ds i t l d near) (p : ℕ) (ep : p < span t) (el : l ≡ place t p) where
     near-is : Nearest (backward t) i l t.start.0 t.end.0 ks near
     near-is = rw f.near (nearest-is (backward t) i l t.start.0 t.end.0 ks s.ascending)
 
-    near-at : (c : Coordinate) → near ≡ At c → Onward ks i t.start.0 t.end.0 (backward t) p c.0
+    near-at : (c : Coordinate) → near ≡ Some c → Onward ks i t.start.0 t.end.0 (backward t) p c.0
     near-at = onward ks i t.start.0 t.end.0 v.ordered.span near (backward t) p l (omega arith) el near-is
 
-    near_none : near ≡ Nothing → (q : ℕ) → p < q → q < span t → at ks i t v q ≡ false
+    near_none : near ≡ None → (q : ℕ) → p < q → q < span t → at ks i t v q ≡ false
     near_none = onward-none ks i t.start.0 t.end.0 v.ordered.span near (backward t) p l (omega arith) el near-is
 
-  module _ {i l d : ℕ} {near : Near} (f : Looked ks ds i t l d near) (el : l ≡ arrival t) where
+  module _ {i l d : ℕ} {near : Option Coordinate} (f : Looked ks ds i t l d near) (el : l ≡ arrival t) where
     at_next : l ≡ place t (next t)
     at_next = el ∙ sym (place-next t v)
 
@@ -184,21 +182,21 @@ module _ {ks ds : List ℕ} {t : Track} (s : Sought ks ds t) where
       bare q e =
           ap (at ks i t v) e ∙ ap (λ (x : ℕ). has_key (key i x) ks) (sym at_next) ∙ info-zero (key i l) ks ds s.telling f.info z
 
-      near_on : (c : Coordinate) → near ≡ At c → Onward ks i t.start.0 t.end.0 (backward t) (next t) c.0
+      near_on : (c : Coordinate) → near ≡ Some c → Onward ks i t.start.0 t.end.0 (backward t) (next t) c.0
       near_on = near-at f (next t) (next_small t v) at_next
 
       -- the point found lies on the span
-      pub near-inside : (c : Coordinate) → near ≡ At c → (t.start.0 ≤ c.0) × (c.0 ≤ t.end.0)
+      pub near-inside : (c : Coordinate) → near ≡ Some c → (t.start.0 ≤ c.0) × (c.0 ≤ t.end.0)
       near-inside c q = let o = near_on c q in (o.above, o.below)
 
       -- it is the first on the way
-      pub found-near : (c : Coordinate) → near ≡ At c → {r : ℕ} → r ≡ steps_to t c.0 → ToPoint ks i t r
+      pub found-near : (c : Coordinate) → near ≡ Some c → {r : ℕ} → r ≡ steps_to t c.0 → ToPoint ks i t r
       found-near c q {r} e =
           let o = near_on c q in
           to-on ks i t v c.0 r o.above o.below o.there e (omega (arith, o.on))
           (λ x a b. ⊎_elim (λ (m : next t < x). o.none x m b) (λ (m : x ≤ next t). bare x (omega arith)) (lt-or-ge (next t) x))
 
-      module _ (none : near ≡ Nothing) where
+      module _ (none : near ≡ None) where
         bare-on : (q : ℕ) → next t ≤ q → q < span t → at ks i t v q ≡ false
         bare-on q a b =
             ⊎_elim
@@ -219,7 +217,7 @@ module _ {ks ds : List ℕ} {t : Track} (s : Sought ks ds t) where
             ∙ bare-on (phase t c) m (phase-small t v c above below))))
             (lt-or-ge (phase t c) (next t))
 
-        module _ {h d' : ℕ} {near' : Near} (f' : Looked ks ds i t h d' near') (eh : h ≡ home t) where
+        module _ {h d' : ℕ} {near' : Option Coordinate} (f' : Looked ks ds i t h d' near') (eh : h ≡ home t) where
           at_home : h ≡ place t 0
           at_home = eh ∙ home-place
 
@@ -244,21 +242,21 @@ module _ {ks ds : List ℕ} {t : Track} (s : Sought ks ds t) where
                 ∙ ap (λ (x : ℕ). has_key (key i x) ks) (sym at_home)
                 ∙ info-zero (key i h) ks ds s.telling f'.info z'
 
-            home-on : (c : Coordinate) → near' ≡ At c → Onward ks i t.start.0 t.end.0 (backward t) 0 c.0
+            home-on : (c : Coordinate) → near' ≡ Some c → Onward ks i t.start.0 t.end.0 (backward t) 0 c.0
             home-on = near-at f' 0 (omega arith) at_home
 
             -- home has none either; the point found from there lies on the span and is the first on the way
-            pub again-inside : (c : Coordinate) → near' ≡ At c → (t.start.0 ≤ c.0) × (c.0 ≤ t.end.0)
+            pub again-inside : (c : Coordinate) → near' ≡ Some c → (t.start.0 ≤ c.0) × (c.0 ≤ t.end.0)
             again-inside c q = let o = home-on c q in (o.above, o.below)
 
-            pub found-again : (c : Coordinate) → near' ≡ At c → {r : ℕ} → r ≡ steps_to t c.0 → ToPoint ks i t r
+            pub found-again : (c : Coordinate) → near' ≡ Some c → {r : ℕ} → r ≡ steps_to t c.0 → ToPoint ks i t r
             found-again c q {r} e =
                 let o = home-on c q in
                 round c.0 r o.above o.below o.there
                 (λ x m. ⊎_elim (λ (a : 0 < x). o.none x a m) (λ (a : x ≤ 0). bare-home x a) (lt-or-ge 0 x)) e
 
             -- the span has no point
-            pub found_none : near' ≡ Nothing → ToPoint ks i t clock_end
+            pub found_none : near' ≡ None → ToPoint ks i t clock_end
             found_none q =
                 record {
                   small = omega arith;

@@ -18,13 +18,13 @@ use Rattle.track.specs.Follow.{judged}
 use Rattle.track.proofs.Tests.{cond_cases, both}
 use Rattle.track.proofs.Leaps.{leap-zero, leap-played, leap-valid}
 use Rattle.board.specs.declared.log.Record.{Record}
-use Rattle.board.specs.Points.{key, info_at, waits, track_count}
+use Rattle.board.specs.Points.{key, info_at, waits, track_count, NonzeroInfos}
 use Rattle.board.specs.Board.{no_track, track_at}
 use Rattle.board.specs.Tick.{keep, members}
 use Rattle.board.specs.Tick.{point_records, change_records, play_bit, playing_word, Stage, staged, found_by, step_records, reached_by, step_member, step_all, run_all, play_from, follow_word, follow_all, tick_from}
 use Rattle.board.specs.Replay.{Each}
 use Rattle.board.specs.Steady.{SteadyFor, PairLeaves, goes}
-use Rattle.board.specs.Quiet.{Some, NonzeroInfos, reaches, loud_step, stops_next, ends_quiet, QuietFor, master_of, Fewest, CanLeap, Leapable, leap_tracks}
+use Rattle.board.specs.Quiet.{AnyOf, reaches, loud_step, stops_next, ends_quiet, QuietFor, master_of, Fewest, CanLeap, Leapable, leap_tracks}
 use Rattle.board.proofs.points.Keys.{lt-or-ge}
 use Rattle.board.proofs.points.Table.{info-none}
 use Rattle.board.proofs.tick.Commands.{run_more}
@@ -152,7 +152,7 @@ module _ (ks ds : List ℕ) (clock : ℕ) where
   module _ (tell : NonzeroInfos ks ds) where
     -- a step that reaches a point writes a record
     point-written : (i : ℕ) (t : Track) → moves t ≡ true → reaches ks i t ≡ true → 0 < length (step_records clock i t (found_by ks ds i t))
-    unfolding NonzeroInfos step_records point_records found_by
+    unfolding step_records point_records found_by
     point-written i t m h = rw (m, ne_eqb (info_at (key i (arrival t)) ks ds) 0 (tell (key i (arrival t)) h)) (omega arith)
 
     ends-quiet-written : (i : ℕ) (s : Stage) {t : Track} → track_at s.tracks i ≡ t → stops_next t ≡ false → ends_quiet ks i t ≡ true
@@ -240,8 +240,8 @@ longer-quiet ks r ts (i ∷ is) q e = (
 )
 
 -- if one changes its band, not all are still
-none-still : (ts : List Track) (is : List ℕ) → Some (λ i. Still ts i → ⊥) is → Each (Still ts) is → ⊥
-unfolding Each Some
+none-still : (ts : List Track) (is : List ℕ) → AnyOf (λ i. Still ts i → ⊥) is → Each (Still ts) is → ⊥
+unfolding Each AnyOf
 none-still ts [] s e = s
 none-still ts (i ∷ is) (inl s) e = s e.0
 none-still ts (i ∷ is) (inr s) e = none-still ts is s e.1
@@ -306,9 +306,9 @@ module _ (ks ds : List ℕ) (present : ℕ) (ts : List Track) (l : length ts ≡
     abbrev pub Ending : Type 0
     Ending =
         (0 < length (tick_from ks ds clock present leapt).records)
-        ⊎ (Some (λ i. stops_next (track_at leapt i) ≡ true) (members word)
+        ⊎ (AnyOf (λ i. stops_next (track_at leapt i) ≡ true) (members word)
         ⊎ ((Each (Still stepped.tracks) (members led) → ⊥)
-        ⊎ Some (λ i. PairLeaves (suc r) (track_at ts i) (master_of ts i)) (members led)))
+        ⊎ AnyOf (λ i. PairLeaves (suc r) (track_at ts i) (master_of ts i)) (members led)))
 
     -- the third part takes no record back
     play-written : 0 < length stepped.records → 0 < length (tick_from ks ds clock present leapt).records
@@ -317,7 +317,7 @@ module _ (ks ds : List ℕ) (present : ℕ) (ts : List Track) (l : length ts ≡
 
     module _ (tell : NonzeroInfos ks ds) where
       -- a loud step is made
-      loud-ending : Some (λ i. ends_quiet ks i (leap (track_at ts i) r) ≡ true) (members word) → Ending
+      loud-ending : AnyOf (λ i. ends_quiet ks i (leap (track_at ts i) r) ≡ true) (members word) → Ending
       loud-ending s =
           let ls = leap-tracks-long r present ts ∙ l in
           ⊎_elim (λ w. inl (play-written w))
@@ -329,7 +329,7 @@ module _ (ks ds : List ℕ) (present : ℕ) (ts : List Track) (l : length ts ≡
 
       -- one tick more would be quiet but for a band
       calm-ending : Each (λ i. QuietFor ks r i (track_at ts i)) (members word) → Each (λ i. ends_quiet ks i (leap (track_at ts i) r) ≡ false) (members word)
-          → Some (λ i. judged (goes (suc r) (track_at ts i)) (goes (suc r) (master_of ts i)) ≡ (track_at ts i).band → ⊥) (members led) → Ending
+          → AnyOf (λ i. judged (goes (suc r) (track_at ts i)) (goes (suc r) (master_of ts i)) ≡ (track_at ts i).band → ⊥) (members led) → Ending
       calm-ending q e s =
           let p = stretch-plays (suc r) (longer-quiet ks r ts (members word) q e) clock r (omega arith) in
           inr (inr (inl

@@ -11,7 +11,7 @@ use Rattle.track.specs.Leap.{leap}
 use Rattle.board.specs.Board.{track_at}
 use Rattle.board.specs.Replay.{Each}
 use Rattle.board.specs.Steady.{Steadies}
-use Rattle.board.specs.Quiet.{Some, QuietFor, QuietTicks, master_of, Fewest, WithMaster, CanLeap, Leapable, leap_into}
+use Rattle.board.specs.Quiet.{AnyOf, QuietFor, QuietTicks, master_of, Fewest, WithMaster, CanLeap, Leapable, leap_into}
 use Rattle.board.proofs.points.Keys.{lt-or-ge}
 
 module _ (ts : List Track) (ms is : List ℕ) (i : ℕ) (e : ms ≡ i ∷ is) where
@@ -28,7 +28,7 @@ module _ (ts : List Track) (ms is : List ℕ) (i : ℕ) (e : ms ≡ i ∷ is) wh
   -- what is the fewest for the others, taken from the lesser of a bound and the ticks of the first, is the fewest for all
   pub fewest-next : (ks fs : List ℕ) (a q : ℕ) {b : ℕ} (r : ℕ) → a ≤ clock_end → QuietTicks ks i (track_at ts i) q → b ≡ min a q
       → Fewest ks ts is fs b r → Fewest ks ts ms fs a r
-  unfolding Each Some
+  unfolding Each AnyOf
   fewest-next ks fs a q {b} r ha s eb f =
       let l = f.small in
       rw e
@@ -46,7 +46,7 @@ module _ (ts : List Track) (ms is : List ℕ) (i : ℕ) (e : ms ≡ i ∷ is) wh
   -- the same of the followers
   pub steady-next : (ks ps : List ℕ) (a q : ℕ) {b : ℕ} (r : ℕ) → a ≤ clock_end → Steadies (track_at ts i) (master_of ts i) q → b ≡ min a q
       → Fewest ks ts ps is b r → Fewest ks ts ps ms a r
-  unfolding Each Some
+  unfolding Each AnyOf
   steady-next ks ps a q {b} r ha s eb f =
       let l = f.small in
       rw e
@@ -84,7 +84,7 @@ quiet-fewer ks ts q r l (i ∷ ps) a = (λ j h. a.0 j (omega arith), quiet-fewer
 
 -- the fewest of the players, and of these the fewest of the followers, are the fewest of both
 pub fewest-both : (ks : List ℕ) (ts : List Track) (ps fs : List ℕ) (a q r : ℕ) → Fewest ks ts ps [] a q → Fewest [] ts [] fs q r → Fewest ks ts ps fs a r
-unfolding Some
+unfolding AnyOf
 fewest-both ks ts ps fs a q r p f =
     let l = p.small in
     let m = f.small in

@@ -1,8 +1,8 @@
 -- The records of the row: what every one of them keeps, and those of one kind.
+use Rattle.std.specs.Prelude.{Option, Some, None}
 use mathlib.Core.Path.{◌≡◌, refl, sym, ◌∙◌}
 use mathlib.Core.List.{List, [], ◌∷◌, ◌++◌, append_assoc, append-nil}
 use mathlib.Core.Bool.{Bool, true, false, cond}
-use mathlib.Core.Option.{Option, none, some}
 use Prim.Native.Nat.{ℕ, zero, suc}
 use lib.ListN.{length, drop, length-append}
 use Rattle.board.specs.Cut.{ticks, passed, crossed, Part, run, one, performs}
@@ -35,7 +35,7 @@ each-drop P (suc n) (x ∷ xs) p = each-drop P n xs p.1
 
 -- `Kept` holds of every board on the way, and so `P` of every record
 module _ (R : Rules) (K : Counts R) (Kept : R.Board → Type 0) (P : R.Rec → Type 0)
-    (tick-kept : (n : ℕ) (b : R.Board) → Kept b → R.halt n b ≡ none
+    (tick-kept : (n : ℕ) (b : R.Board) → Kept b → R.halt n b ≡ None
     → Each P (R.tick b).records × Kept (R.grown (R.tick b).board (length (R.tick b).records)))
     (call_kept : (c : R.Call) (n : ℕ) (b : R.Board) → Kept b
     → Each P (R.makes c n b).records × Kept (R.grown (R.makes c n b).board (length (R.makes c n b).records))) where
@@ -58,10 +58,10 @@ module _ (R : Rules) (K : Counts R) (Kept : R.Board → Type 0) (P : R.Rec → T
     where
       go : (o : Option Stop) → r-halt R s ≡ o → (Keeps (r-step R s) → Keeps (ticks (r-halt R) (r-step R) n (r-step R s)).end)
           → Keeps (ticks (r-halt R) (r-step R) (suc n) s).end
-      go none e ih =
+      go None e ih =
           rw (ticks-on (r-halt R) (r-step R) n s e)
           (ih (takes-keep (tick s.board) s h.1 (tick-kept (length s.log) s.board h.0 e)))
-      go (some x) e ih = rw (ticks-off (r-halt R) (r-step R) n s x e) h
+      go (Some x) e ih = rw (ticks-off (r-halt R) (r-step R) n s x e) h
 
   -- every call
   part-keeps : (p : Part Call) (s : State Board Rec) → Keeps s → Keeps (replay R p s).left
@@ -70,8 +70,8 @@ module _ (R : Rules) (K : Counts R) (Kept : R.Board → Type 0) (P : R.Rec → T
   part-keeps (run n) s h = go (r-bar R s) refl
     where
       go : (o : Option ℕ) → r-bar R s ≡ o → Keeps (replay R (run n) s).left
-      go none e = rw (advance-in (r-halt R) (r-step R) (r-bar R) done refuse n s e) (ticks-keep n s h)
-      go (some x) e = rw (advance-out (r-halt R) (r-step R) (r-bar R) done refuse n s x e) h
+      go None e = rw (advance-in (r-halt R) (r-step R) (r-bar R) done refuse n s e) (ticks-keep n s h)
+      go (Some x) e = rw (advance-out (r-halt R) (r-step R) (r-bar R) done refuse n s x e) h
 
   -- and every list of calls
   pub list-keeps : (ps : List (Part Call)) (s : State Board Rec) → Keeps s → Keeps (performs (replay R) ps s).last
@@ -124,12 +124,12 @@ module _ (R : Rules) (K : Counts R) (kind : R.Rec → Bool) (points : R.Board �
       go : (o : Option Stop) → r-halt R s ≡ o
           → only kind (ticks (r-halt R) (r-step R) n (r-step R s)).end.row ≡ kept-with (r-step R s) (went n (r-step R s))
           → only kind (ticks (r-halt R) (r-step R) (suc n) s).end.row ≡ kept-with s (went (suc n) s)
-      go none e ih =
+      go None e ih =
           rw (ticks-on (r-halt R) (r-step R) n s e, passed_on (r-halt R) (r-step R) n s e)
           (ih
           ∙ rw (takes-kind (tick s.board) s, tick-points s.board)
           (append_assoc (only kind s.row) (points s.board) _))
-      go (some x) e ih =
+      go (Some x) e ih =
           rw (ticks-off (r-halt R) (r-step R) n s x e, passed-off (r-halt R) (r-step R) n s x e)
           (sym (append-nil (only kind s.row)))
 
@@ -137,13 +137,13 @@ module _ (R : Rules) (K : Counts R) (kind : R.Rec → Bool) (points : R.Board �
   kind-one n s = go (r-bar R s) refl
     where
       go : (o : Option ℕ) → r-bar R s ≡ o → only kind (replay R (run n) s).left.row ≡ kept-with s (over n s)
-      go none e =
+      go None e =
           rw (
             advance-in (r-halt R) (r-step R) (r-bar R) done refuse n s e,
             crossed-in (r-halt R) (r-step R) (r-bar R) done refuse n s e,
           )
           (ticks-kind n s)
-      go (some x) e =
+      go (Some x) e =
           rw (
             advance-out (r-halt R) (r-step R) (r-bar R) done refuse n s x e,
             crossed-out (r-halt R) (r-step R) (r-bar R) done refuse n s x e,

@@ -1,8 +1,8 @@
 -- The laws of the replay: the calls agree with it, the row is what they write, which of it is held, and the cut on a board.
+use Rattle.std.specs.Prelude.{Option, Some, None}
 use mathlib.Core.Path.{◌≡◌, refl, sym, ◌∙◌, ap}
 use mathlib.Core.List.{List, [], ◌∷◌, ◌++◌, append_assoc, append-nil}
 use mathlib.Core.Bool.{Bool, true, false, cond}
-use mathlib.Core.Option.{Option, none, some}
 use Prim.Native.Nat.{ℕ, zero, suc, ◌+◌, ◌*◌, ◌≤◌}
 use native.Mathlib.Nat.{add-zero, zero-add, suc-add, add-suc, add_assoc, add_comm, mul-add, mul-one, mul-zero, mul-suc}
 use native.Mathlib.Nat.{le_trans, mul-le-mul_left}
@@ -65,7 +65,7 @@ module _ (R : Rules) where
   -- records are written only where they fit, and a call leaves the held ones or lets them go
   pub record Room : Type 0 where
     pub tick_held : (b : Board) → held (tick b).board ≡ held b
-    pub tick_fits : (n : ℕ) (b : Board) → halt n b ≡ none → width * (held b + length (tick b).records) ≤ n
+    pub tick_fits : (n : ℕ) (b : Board) → halt n b ≡ None → width * (held b + length (tick b).records) ≤ n
     pub call_held : (c : Call) (n : ℕ) (b : Board) → Leaves (clears c b) b (makes c n b)
     pub call_fits : (c : Call) (n : ℕ) (b : Board) → width * held b ≤ n
         → width * (held (makes c n b).board + length (makes c n b).records) ≤ n
@@ -207,7 +207,7 @@ module _ (R : Rules) (K : Counts R) (M : Room R) where
   behind-fits : {s s' : State Board Rec} → Behind R K s s' → Fits s'
   behind-fits {s} {s'} p = rw (p.log_is, length-sets s.log (width * held s.board) (flat R p.recs)) p.fits
 
-  step-behind : (s : State Board Rec) → r-halt R s ≡ none → Behind R K s (r-step R s)
+  step-behind : (s : State Board Rec) → r-halt R s ≡ None → Behind R K s (r-step R s)
   step-behind s e = behind-takes R K (tick s.board) s (tick_held s.board) (tick_fits (length s.log) s.board e)
 
   ticks-behind : (n : ℕ) (s : State Board Rec) → Fits s → Behind R K s (go_on n s).end
@@ -217,13 +217,13 @@ module _ (R : Rules) (K : Counts R) (M : Room R) where
     where
       go : (o : Option Stop) → r-halt R s ≡ o → (Fits (r-step R s) → Behind R K (r-step R s) (go_on n (r-step R s)).end)
           → Behind R K s (go_on (suc n) s).end
-      go none e ih =
+      go None e ih =
           let p : Behind R K s (r-step R s) = step-behind s e in
           rw (ticks-on (r-halt R) (r-step R) n s e) (behind-then R K p (ih (behind-fits p)))
-      go (some x) e ih = rw (ticks-off (r-halt R) (r-step R) n s x e) (behind-none R K s f)
+      go (Some x) e ih = rw (ticks-off (r-halt R) (r-step R) n s x e) (behind-none R K s f)
 
   -- a tick that is taken writes its records, behind those held
-  pub tick-written : (w : World Board) → w-halt R w ≡ none → written R w (w-step R w) ≡ flat R (tick w.board).records
+  pub tick-written : (w : World Board) → w-halt R w ≡ None → written R w (w-step R w) ≡ flat R (tick w.board).records
   tick-written w e =
       let b = w.board in
       let rs = (tick b).records in
@@ -253,8 +253,8 @@ module _ (R : Rules) (K : Counts R) (M : Room R) where
   wrote_one (run n) s f = go (r-bar R s) refl
     where
       go : (o : Option ℕ) → r-bar R s ≡ o → Wrote s (advance (r-halt R) (r-step R) (r-bar R) done refuse n s).left
-      go none e = rw (advance-in (r-halt R) (r-step R) (r-bar R) done refuse n s e) (wrote-behind (ticks-behind n s f))
-      go (some x) e =
+      go None e = rw (advance-in (r-halt R) (r-step R) (r-bar R) done refuse n s e) (wrote-behind (ticks-behind n s f))
+      go (Some x) e =
           rw (advance-out (r-halt R) (r-step R) (r-bar R) done refuse n s x e) (wrote-behind (behind-none R K s f))
   wrote_one (one c) s f = go (clears c s.board) (call_held c (length s.log) s.board)
     where
@@ -323,8 +323,8 @@ module _ (R : Rules) (K : Counts R) (M : Room R) where
   holds-one (run k) s n f h = go (r-bar R s) refl
     where
       go : (o : Option ℕ) → r-bar R s ≡ o → Holds (replay R (run k) s).left n
-      go none e = rw (advance-in (r-halt R) (r-step R) (r-bar R) done refuse k s e) (holds-behind (ticks-behind k s f) h)
-      go (some x) e = rw (advance-out (r-halt R) (r-step R) (r-bar R) done refuse k s x e) h
+      go None e = rw (advance-in (r-halt R) (r-step R) (r-bar R) done refuse k s e) (holds-behind (ticks-behind k s f) h)
+      go (Some x) e = rw (advance-out (r-halt R) (r-step R) (r-bar R) done refuse k s x e) h
   holds-one (one c) s n f h = go (clears c s.board) (call_held c (length s.log) s.board)
     where
       m : Made Board Rec
@@ -346,12 +346,12 @@ module _ (R : Rules) (K : Counts R) (M : Room R) where
 -- ---- the cut, on a board
 
 module _ {F : Type 0} (R : Rules) (D : Read F R.done R.refuse)
-    (kept : (n : ℕ) (b : R.Board) → R.bar n b ≡ none → R.halt n b ≡ none
-    → R.bar n (R.grown (R.tick b).board (length (R.tick b).records)) ≡ none) where
+    (kept : (n : ℕ) (b : R.Board) → R.bar n b ≡ None → R.halt n b ≡ None
+    → R.bar n (R.grown (R.tick b).board (length (R.tick b).records)) ≡ None) where
   open R use {Board, Call, width, held, grown, bar, tick, done, refuse}
 
   -- a tick that is taken brings no bar
-  pub w_kept : (w : World Board) → w-bar R w ≡ none → w-halt R w ≡ none → w-bar R (w-step R w) ≡ none
+  pub w_kept : (w : World Board) → w-bar R w ≡ None → w-halt R w ≡ None → w-bar R (w-step R w) ≡ None
   w_kept w h e =
       ap (λ (n : ℕ). bar n (grown (tick w.board).board (length (tick w.board).records)))
       (length-sets w.log (width * held (tick w.board).board) (flat R (tick w.board).records))

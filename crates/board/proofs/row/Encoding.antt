@@ -1,42 +1,38 @@
 -- The laws of calls and replies as rows of numbers.
+use Rattle.std.specs.Prelude.{Option, Some, None}
 use mathlib.Core.Path.{◌≡◌, refl, sym, ap, ◌∙◌}
 use mathlib.Core.Bool.{Bool, true, false, cond}
 use mathlib.Core.List.{List, [], ◌∷◌, ◌++◌, append_assoc}
-use mathlib.Core.Option.{none, some}
-use Prim.Native.Nat.{ℕ, zero, suc, ◌+◌, ◌-◌, ◌^◌, ◌≤◌, ◌<◌, min}
-use native.Mathlib.Nat.{add-zero, zero-add}
+use Prim.Native.Nat.{ℕ, zero, suc, ◌-◌, ◌^◌, ◌≤◌, ◌<◌, min}
+use native.Mathlib.Nat.{zero-add}
 use native.Mathlib.Omega.{arith}
 use borrow.Author.Tests.{ne_eqb, eq-eqb, eqb-true, leb-true, leb-false}
 use lib.Dec.{eqb, leb}
 use lib.IntN.{ℤ, pos, negsuc}
-use lib.ListN.{length, take, drop, get_or, replicate, set, length-set, length-append}
-use lib.Seq.{get_or-drop, take_all}
+use lib.ListN.{length, take, drop, replicate, length-append}
+use lib.Seq.{get_or-take}
 use lib.Signed.{mag}
 use mir.Syntax.{w64}
 use mir.Val.{hbits}
 use mir.Facts.{to_z-of_z}
 use Rattle.track.specs.declared.Track.{Track}
-use Rattle.track.specs.declared.number.Natural.{Natural}
-use Rattle.track.specs.declared.number.Natural.TheVariants as natural
 use Rattle.track.specs.Rule.{cell_count, threshold_count}
-use Rattle.track.specs.Number.{natural_of, capped_of, on_natural, value_of, coordinate_at}
+use Rattle.track.specs.Number.{natural_of, capped_of, on_some, value_of, coordinate_at}
 use Rattle.track.specs.declared.Coordinate.{Coordinate}
 use Rattle.track.proofs.Numbers.{natural-in, natural-of, capped-in, coordinate-at, back}
 use Rattle.board.specs.Log.{write_at}
-use Rattle.board.specs.Row.{reply_width, call_from, call_of, plain_at, row_number, pairs_from, pairs_in, master_code, is_code, master_call, master_in, call_at, padded, track_numbers, point_numbers, cells_at, master_at, thresholds_at, events_at, rate_at}
-use Rattle.board.specs.Setup.{row_of}
+use Rattle.board.specs.Row.{call_width, reply_width, call_from, call_of, plain_at, row_number, pairs_from, pairs_in, master_code, is_code, master_call, master_in, call_at, padded, track_numbers, point_numbers, cells_at, master_at, thresholds_at, events_at, rate_at}
 use Rattle.board.specs.Call.{TrackValues, track_values, point_values}
 use Rattle.board.specs.declared.points.Point.{Point}
 use Rattle.board.specs.declared.call.Call.TheVariants as call
 use Rattle.board.specs.declared.call.Pairs.{Pairs}
 use Rattle.board.specs.declared.call.Pairs.TheVariants as pairs
 use Rattle.board.proofs.log.Words.{write-write}
-use Rattle.board.proofs.tick.Staging.{write_byte}
 
 -- ---- the call of a row
 
 -- above 22 there is no call
-no_code : (n : ℕ) (a b c d e f : ℤ) → 22 < n → call_from n a b c d e f ≡ none
+no_code : (n : ℕ) (a b c d e f : ℤ) → 22 < n → call_from n a b c d e f ≡ None
 no_code n a b c d e f h =
     simp (
       ne_eqb n 1 (omega arith),
@@ -63,19 +59,19 @@ no_code n a b c d e f h =
     )
 
 -- a number outside 1 to 22 is the code of no call
-pub code_out : (z : ℤ) (a b c d e f : ℤ) → natural_of z 1 22 ≡ natural.Outside → none ≡ call_of z a b c d e f
+pub code_out : (z : ℤ) (a b c d e f : ℤ) → natural_of z 1 22 ≡ None → None ≡ call_of z a b c d e f
 code_out (negsuc k) a b c d e f h = refl
 code_out (pos k) a b c d e f h = go (leb k 22) (leb 1 k) refl refl
   where
-    go : (s t : Bool) → leb k 22 ≡ s → leb 1 k ≡ t → none ≡ call_from k a b c d e f
+    go : (s t : Bool) → leb k 22 ≡ s → leb 1 k ≡ t → None ≡ call_from k a b c d e f
     go false t p q = sym (no_code k a b c d e f (leb-false _ _ p))
     go true false p q = let z : 0 ≡ k = omega (arith, leb-false 1 k q) in ap (λ (n : ℕ). call_from n a b c d e f) z
     go true true p q =
-        ap (λ (n : Natural). on_natural n (λ j. call_from j a b c d e f) none)
+        ap (λ (n : Option ℕ). on_some n (λ j. call_from j a b c d e f) None)
         (sym h ∙ natural-of k 1 22 (leb-true _ _ q) (leb-true _ _ p))
 
 -- and one within is that code
-pub code_in : (z : ℤ) {n : ℕ} (a b c d e f : ℤ) → natural_of z 1 22 ≡ natural.In n → call_from n a b c d e f ≡ call_of z a b c d e f
+pub code_in : (z : ℤ) {n : ℕ} (a b c d e f : ℤ) → natural_of z 1 22 ≡ Some n → call_from n a b c d e f ≡ call_of z a b c d e f
 code_in z a b c d e f h = sym (ap (λ (y : ℤ). call_of y a b c d e f) (natural-in z 1 22 h).0)
 
 -- the codes 1 to k, one after the other, are not n
@@ -89,12 +85,12 @@ past n zero h p = h
 past n (suc k) h p = omega (arith, past n k h p.0, p.1)
 
 -- the code of a master call, and any other
-code-yes : (z : ℤ) {n : ℕ} → natural_of z master_code master_code ≡ natural.In n → is_code master_code z ≡ true
+code-yes : (z : ℤ) {n : ℕ} → natural_of z master_code master_code ≡ Some n → is_code master_code z ≡ true
 code-yes z {n} e =
     let r = natural-in z master_code master_code e in
     ap (is_code master_code) r.0 ∙ eq-eqb n master_code (omega (arith, r.1, r.2))
 
-code-no : (z : ℤ) → natural_of z master_code master_code ≡ natural.Outside → is_code master_code z ≡ false
+code-no : (z : ℤ) → natural_of z master_code master_code ≡ None → is_code master_code z ≡ false
 code-no (negsuc n) e = refl
 code-no (pos n) e = go (eqb n master_code) refl
   where
@@ -102,7 +98,7 @@ code-no (pos n) e = go (eqb n master_code) refl
     go false p = p
     go true p =
         let q = eqb-true n master_code p in
-        let f : natural.Outside ≡ natural.In n = sym e ∙ natural-of n master_code master_code (omega arith) (omega arith) in
+        let f : None ≡ Some n = sym e ∙ natural-of n master_code master_code (omega arith) (omega arith) in
         cc
 
 -- five pairs or more are more than four
@@ -124,93 +120,58 @@ pairs-five n zs = go (leb n 4) refl
         let l = leb-false n 4 p in
         sym (pairs-more (min n 5) _ _ _ _ _ _ _ _ _ _ (omega arith)) ∙ pairs-more n _ _ _ _ _ _ _ _ _ _ l
 
--- a number of a list that its bits give back
+-- a number of a row that its bits give back
 abbrev pub Kept : List ℤ → ℕ → Type 0
-Kept zs n = mag (get_or zs n (pos 0)) < 2 ^ hbits w64
+Kept zs n = mag (row_number zs n) < 2 ^ hbits w64
 
--- a number of a list read back from its bits is that number of the row that begins at a place
-at_row : (zs : List ℤ) (k n : ℕ) → Kept zs (k + n) → back (get_or zs (k + n) (pos 0)) ≡ row_number (drop k zs) n
-at_row zs k n h = to_z-of_z {w = w64} (record { sfits = h }) ∙ sym (get_or-drop k zs n (pos 0))
+module _ (zs : List ℤ) where
+  kept : (n : ℕ) → Kept zs n → back (row_number zs n) ≡ row_number zs n
+  kept n h = to_z-of_z {w = w64} (record { sfits = h })
 
--- the first of them
-pub first_read : (zs : List ℤ) (k : ℕ) → get_or zs k (pos 0) ≡ row_number (drop k zs) 0
-first_read zs k = sym (get_or-drop k zs 0 (pos 0) ∙ ap (λ (n : ℕ). get_or zs n (pos 0)) (add-zero k))
-
--- seven numbers, one after the other and each read back from its bits, are the head of a row: a code and six numbers
-pub row_read : (zs : List ℤ) (k : ℕ) → Kept zs k → Kept zs (k + 1) → Kept zs (k + 2) → Kept zs (k + 3) → Kept zs (k + 4) → Kept zs (k + 5) →
-    Kept zs (k + 6) →
-    call_of (back (get_or zs k (pos 0))) (back (get_or zs (k + 1) (pos 0))) (back (get_or zs (k + 2) (pos 0))) (back (get_or zs (k + 3) (pos 0)))
-    (back (get_or zs (k + 4) (pos 0))) (back (get_or zs (k + 5) (pos 0))) (back (get_or zs (k + 6) (pos 0)))
-    ≡ plain_at (drop k zs)
-row_read zs k a b c d e f g =
-    let at : (n : ℕ) → Kept zs (k + n) → back (get_or zs (k + n) (pos 0)) ≡ row_number (drop k zs) n = at_row zs k in
-    λ i. call_of ((to_z-of_z {w = w64} (record { sfits = a }) ∙ first_read zs k) i) (at 1 b i) (at 2 c i) (at 3 d i) (at 4 e i) (at 5 f i) (at 6 g i)
-
--- ten numbers behind four are the pairs of a row
-pub pairs-read : (zs : List ℤ) (k n : ℕ) → Kept zs (k + 4) → Kept zs (k + 5) → Kept zs (k + 6) → Kept zs (k + 7) → Kept zs (k + 8) →
-    Kept zs (k + 9) → Kept zs (k + 10) → Kept zs (k + 11) → Kept zs (k + 12) → Kept zs (k + 13) →
-    pairs_from n (back (get_or zs (k + 4) (pos 0))) (back (get_or zs (k + 5) (pos 0))) (back (get_or zs (k + 6) (pos 0)))
-    (back (get_or zs (k + 7) (pos 0))) (back (get_or zs (k + 8) (pos 0))) (back (get_or zs (k + 9) (pos 0))) (back (get_or zs (k + 10) (pos 0)))
-    (back (get_or zs (k + 11) (pos 0))) (back (get_or zs (k + 12) (pos 0))) (back (get_or zs (k + 13) (pos 0)))
-    ≡ pairs_in n (drop k zs)
-pairs-read zs k n a b c d e f g h l m =
-    let at : (n : ℕ) → Kept zs (k + n) → back (get_or zs (k + n) (pos 0)) ≡ row_number (drop k zs) n = at_row zs k in
-    λ i. pairs_from n (at 4 a i) (at 5 b i) (at 6 c i) (at 7 d i) (at 8 e i) (at 9 f i) (at 10 g i) (at 11 h i) (at 12 l i) (at 13 m i)
-
-module _ (zs : List ℤ) (k : ℕ) where
   -- the numbers of a master call: a number of pairs brought down to five is read as it is
-  counted : {n : ℕ} → Kept zs (k + 3) → capped_of (back (get_or zs (k + 3) (pos 0))) 5 ≡ natural.In n →
-      (j : ℕ) × (row_number (drop k zs) 3 ≡ pos j) × (n ≡ min j 5)
-  counted h e = capped-in _ 5 (ap (λ (z : ℤ). capped_of z 5) (sym (at_row zs k 3 h)) ∙ e)
+  counted : {n : ℕ} → Kept zs 3 → capped_of (back (row_number zs 3)) 5 ≡ Some n → (j : ℕ) × (row_number zs 3 ≡ pos j) × (n ≡ min j 5)
+  counted h e = capped-in _ 5 (ap (λ (z : ℤ). capped_of z 5) (sym (kept 3 h)) ∙ e)
 
-  pub master-none : Kept zs (k + 3) → capped_of (back (get_or zs (k + 3) (pos 0))) 5 ≡ natural.Outside → none ≡ master_in (drop k zs)
+  pub master-none : Kept zs 3 → capped_of (back (row_number zs 3)) 5 ≡ None → None ≡ master_in zs
   unfolding capped_of
-  master-none h e = go (row_number (drop k zs) 3) (ap (λ (z : ℤ). capped_of z 5) (sym (at_row zs k 3 h)) ∙ e)
+  master-none h e = go (row_number zs 3) (ap (λ (z : ℤ). capped_of z 5) (sym (kept 3 h)) ∙ e)
     where
-      go : (z : ℤ) → capped_of z 5 ≡ natural.Outside → none ≡ master_call (row_number (drop k zs) 1) (row_number (drop k zs) 2) z (λ n. pairs_in n (drop k zs))
+      go : (z : ℤ) → capped_of z 5 ≡ None → None ≡ master_call (row_number zs 1) (row_number zs 2) z (λ n. pairs_in n zs)
       go (pos n) p = cc
       go (negsuc n) p = refl
 
-  pub master-read : {n : ℕ} {ps : Pairs} → Kept zs (k + 1) → Kept zs (k + 2) → Kept zs (k + 3) →
-      capped_of (back (get_or zs (k + 3) (pos 0))) 5 ≡ natural.In n → ps ≡ pairs_in n (drop k zs) →
-      some (call.Master (back (get_or zs (k + 1) (pos 0))) (back (get_or zs (k + 2) (pos 0))) ps) ≡ master_in (drop k zs)
+  pub master-read : {n : ℕ} {ps : Pairs} → Kept zs 1 → Kept zs 2 → Kept zs 3 → capped_of (back (row_number zs 3)) 5 ≡ Some n → ps ≡ pairs_in n zs →
+      Some (call.Master (back (row_number zs 1)) (back (row_number zs 2)) ps) ≡ master_in zs
   master-read {n} a b h e p =
       let c = counted h e in
-      (λ i. some (call.Master (at_row zs k 1 a i) (at_row zs k 2 b i) ((p ∙ ap (λ (m : ℕ). pairs_in m (drop k zs)) c.2 ∙ pairs-five c.0 (drop k zs)) i)))
-      ∙ ap (λ (z : ℤ). master_call (row_number (drop k zs) 1) (row_number (drop k zs) 2) z (λ m. pairs_in m (drop k zs))) (sym c.1)
+      (λ i. Some (call.Master (kept 1 a i) (kept 2 b i) ((p ∙ ap (λ (m : ℕ). pairs_in m zs) c.2 ∙ pairs-five c.0 zs) i)))
+      ∙ ap (λ (z : ℤ). master_call (row_number zs 1) (row_number zs 2) z (λ m. pairs_in m zs)) (sym c.1)
 
   -- a row is a master call if its code is 21, else a call of six numbers
-  is-code : Kept zs k → {n : Natural} → natural_of (back (get_or zs k (pos 0))) master_code master_code ≡ n → natural_of (row_number (drop k zs) 0) master_code master_code ≡ n
-  is-code h e = ap (λ (z : ℤ). natural_of z master_code master_code) (sym (to_z-of_z {w = w64} (record { sfits = h }) ∙ first_read zs k)) ∙ e
+  is-code : Kept zs 0 → {n : Option ℕ} → natural_of (back (row_number zs 0)) master_code master_code ≡ n → natural_of (row_number zs 0) master_code master_code ≡ n
+  is-code h e = ap (λ (z : ℤ). natural_of z master_code master_code) (sym (kept 0 h)) ∙ e
 
-  pub row-master : {n : ℕ} → Kept zs k → natural_of (back (get_or zs k (pos 0))) master_code master_code ≡ natural.In n → master_in (drop k zs) ≡ call_at (drop k zs)
-  row-master h e = sym (ap (λ (t : Bool). cond t (master_in (drop k zs)) (plain_at (drop k zs))) (code-yes _ (is-code h e)))
+  pub row-master : {n : ℕ} → Kept zs 0 → natural_of (back (row_number zs 0)) master_code master_code ≡ Some n → master_in zs ≡ call_at zs
+  row-master h e = sym (ap (λ (t : Bool). cond t (master_in zs) (plain_at zs)) (code-yes _ (is-code h e)))
 
-  pub row_plain : Kept zs k → natural_of (back (get_or zs k (pos 0))) master_code master_code ≡ natural.Outside → plain_at (drop k zs) ≡ call_at (drop k zs)
-  row_plain h e = sym (ap (λ (t : Bool). cond t (master_in (drop k zs)) (plain_at (drop k zs))) (code-no _ (is-code h e)))
+  pub row_plain : Kept zs 0 → natural_of (back (row_number zs 0)) master_code master_code ≡ None → plain_at zs ≡ call_at zs
+  row_plain h e = sym (ap (λ (t : Bool). cond t (master_in zs) (plain_at zs)) (code-no _ (is-code h e)))
+
+-- the 14 numbers of a row are those that its call is read from
+module _ (zs : List ℤ) where
+  cut : (n : ℕ) → n < call_width → row_number (take call_width zs) n ≡ row_number zs n
+  cut n h = get_or-take call_width zs n (pos 0) h
+
+  pub row-cut : call_at (take call_width zs) ≡ call_at zs
+  row-cut =
+      let at : (n : ℕ) → n < call_width → row_number (take call_width zs) n ≡ row_number zs n = cut in
+      λ i. cond (is_code master_code (at 0 (omega arith) i))
+      (master_call (at 1 (omega arith) i) (at 2 (omega arith) i) (at 3 (omega arith) i)
+      (λ n. pairs_from n (at 4 (omega arith) i) (at 5 (omega arith) i) (at 6 (omega arith) i) (at 7 (omega arith) i) (at 8 (omega arith) i) (at 9 (omega arith) i)
+      (at 10 (omega arith) i) (at 11 (omega arith) i) (at 12 (omega arith) i) (at 13 (omega arith) i)))
+      (call_of (at 0 (omega arith) i) (at 1 (omega arith) i) (at 2 (omega arith) i) (at 3 (omega arith) i) (at 4 (omega arith) i) (at 5 (omega arith) i) (at 6 (omega arith) i))
 
 -- ---- the row of a reply
-
--- so many numbers written, which are all of them
-pub all-written : (row xs : List ℕ) (at n : ℕ) → length xs ≡ n → write_at row at (take n xs) ≡ write_at row at xs
-all-written row xs at n l = ap (write_at row at) (take_all n xs (omega (arith, l)))
-
--- a row of four is its four numbers
-pub four-listed : (xs : List ℕ) → length xs ≡ threshold_count → row_of xs ≡ xs
-four-listed [] h = absurd (omega arith)
-four-listed (a ∷ []) h = absurd (omega arith)
-four-listed (a ∷ b ∷ []) h = absurd (omega arith)
-four-listed (a ∷ b ∷ c ∷ []) h = absurd (omega arith)
-four-listed (a ∷ b ∷ c ∷ d ∷ []) h = refl
-four-listed (a ∷ b ∷ c ∷ d ∷ e ∷ xs) h = absurd (omega arith)
-
--- two stores are a write of two
-pub two-written : (row : List ℕ) (at a b : ℕ) → at + 2 ≤ length row → set (set row at a) (at + 1) b ≡ write_at row at (a ∷ b ∷ [])
-two-written row at a b h =
-    let l : length (set row at a) ≡ length row = length-set row at a in
-    write_byte (set row at a) (at + 1) b (omega arith)
-    ∙ ap (λ (r : List ℕ). write_at r (at + 1) (b ∷ [])) (write_byte row at a (omega arith))
-    ∙ write-write row (a ∷ []) (b ∷ []) at (at + 1) refl (omega arith)
 
 -- the numbers of a track and of a point have their coordinates
 pub track-coordinates : (t : Track) →
@@ -247,14 +208,6 @@ track-coordinates t =
 pub point-coordinate : (p : Point) →
     p.track ∷ p.position.0 ∷ p.event ∷ p.wait ∷ p.command ∷ p.target ∷ [] ≡ point_numbers (point_values p)
 point-coordinate p = λ i. p.track ∷ (sym (coordinate-at p.position) i).0 ∷ p.event ∷ p.wait ∷ p.command ∷ p.target ∷ []
-
--- three stores are a write of three
-pub three-written : (row : List ℕ) (at a b c : ℕ) → at + 3 ≤ length row → set (set (set row at a) (at + 1) b) (at + 2) c ≡ write_at row at (a ∷ b ∷ c ∷ [])
-three-written row at a b c h =
-    let l : length (set (set row at a) (at + 1) b) ≡ length row = length-set (set row at a) (at + 1) b ∙ length-set row at a in
-    write_byte (set (set row at a) (at + 1) b) (at + 2) c (omega arith)
-    ∙ ap (λ (r : List ℕ). write_at r (at + 2) (c ∷ [])) (two-written row at a b (omega arith))
-    ∙ write-write row (a ∷ b ∷ []) (c ∷ []) at (at + 2) refl (omega arith)
 
 -- the row of a track: its cells written behind its head, its master and band behind these, then its thresholds, their events and its rate
 pub track-numbers : (t : TrackValues) → length t.actions ≡ cell_count → length t.thresholds ≡ threshold_count → length t.events ≡ threshold_count →

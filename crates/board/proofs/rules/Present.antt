@@ -1,4 +1,5 @@
 -- The word of the tracks that are present.
+use Rattle.std.specs.Prelude.{Option, Some, None}
 use Prim.Native.Nat.{ℕ, zero, suc, ◌+◌, ◌*◌, ◌/◌, ◌%◌, ◌^◌, ◌<◌}
 use mathlib.Core.Path.{◌≡◌, refl, ◌∙◌, ap, subst}
 use mathlib.Core.Bool.{Bool, true, false, cond}
@@ -8,32 +9,30 @@ use native.Mathlib.Omega.{arith}
 use lib.Dec.{eqb}
 use lib.IntN.{ℤ}
 use borrow.Author.Tests.{eqb-false, eqb-true}
-use Rattle.track.specs.Number.{natural_of, on_natural}
-use Rattle.track.specs.declared.number.Natural.{Natural}
-use Rattle.track.specs.declared.number.Natural.TheVariants as natural
+use Rattle.track.specs.Number.{natural_of, on_some}
 use Rattle.board.specs.Board.{is_present, found_in}
 use Rattle.board.specs.Points.{track_count}
 use Rattle.board.proofs.rules.Broken.{present-bit, present-small, half-bit}
 
-Present? : ℕ → Natural → Type 0
-Present? present (natural.In i) = is_present present i ≡ true
-Present? present natural.Outside = Unit {0}
+Present? : ℕ → Option ℕ → Type 0
+Present? present (Some i) = is_present present i ≡ true
+Present? present None = Unit {0}
 
 -- a track that is found is present
-pub found_in_lem : (present : ℕ) (track : ℤ) {i : ℕ} → found_in present track ≡ natural.In i → is_present present i ≡ true
+pub found_in_lem : (present : ℕ) (track : ℤ) {i : ℕ} → found_in present track ≡ Some i → is_present present i ≡ true
 unfolding Present? found_in
 found_in_lem present track e = subst (Present? present) e (go (natural_of track 0 15))
   where
-    at : (i : ℕ) (b : Bool) → is_present present i ≡ b → Present? present (cond b (natural.In i) natural.Outside)
+    at : (i : ℕ) (b : Bool) → is_present present i ≡ b → Present? present (cond b (Some i) None)
     at i true e = e
     at i false e = tt
 
-    go : (n : Natural) → Present? present (on_natural n (λ i. cond (is_present present i) (natural.In i) natural.Outside) natural.Outside)
-    go (natural.In i) = at i (is_present present i) refl
-    go natural.Outside = tt
+    go : (n : Option ℕ) → Present? present (on_some n (λ i. cond (is_present present i) (Some i) None) None)
+    go (Some i) = at i (is_present present i) refl
+    go None = tt
 
 -- and has a number below 16
-pub found-below : (present : ℕ) (track : ℤ) {i : ℕ} → found_in present track ≡ natural.In i → i < track_count
+pub found-below : (present : ℕ) (track : ℤ) {i : ℕ} → found_in present track ≡ Some i → i < track_count
 found-below present track e = present-small present _ (found_in_lem present track e)
 
 -- a word of n bits has room for a bit that is not set

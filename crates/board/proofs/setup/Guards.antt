@@ -1,4 +1,5 @@
 -- What the guards of a call let through.
+use Rattle.std.specs.Prelude.{Option, Some, None, Ok}
 use Prim.Native.Nat.{ℕ, zero, suc, ◌+◌, ◌*◌, ◌/◌, ◌%◌, ◌^◌, ◌-◌, ◌≤◌, ◌<◌, suc-le-suc}
 use mathlib.Core.Path.{◌≡◌, refl, sym, ◌∙◌, ap, subst}
 use mathlib.Core.Bool.{Bool, true, false, cond, ◌&&◌}
@@ -14,26 +15,20 @@ use mir.Syntax.{w64}
 use mir.Val.{SFits}
 use mir.Facts.{to_z-of_z}
 use borrow.Author.Tests.{eqb-true, eq-eqb, ne_eqb, leb-true, ltb-true, le-leb, lt-ltb}
-use Rattle.track.specs.Number.{natural_of, on_natural, on_place, within, coordinate_of, value_of, clamped_of}
-use Rattle.track.specs.declared.number.Natural.{Natural}
-use Rattle.track.specs.declared.number.Natural.TheVariants as natural
+use Rattle.track.specs.Number.{natural_of, on_some, within, coordinate_of, value_of, clamped_of}
 use Rattle.board.specs.Board.{is_present, Unbroken, PointRule, track_at, allowed_test, place_test}
 use Rattle.track.specs.declared.Coordinate.{Coordinate}
 use Rattle.track.specs.declared.Track.{Track}
-use Rattle.track.specs.declared.number.Place.{Place}
-use Rattle.track.specs.declared.number.Place.TheVariants as place
 use Rattle.board.specs.declared.points.Point.{Point}
-use Rattle.board.specs.declared.query.PointRead.TheVariants as point
-use Rattle.board.specs.declared.points.Stored.{Stored}
-use Rattle.board.specs.declared.setup.Outcome.{Outcome}
-use Rattle.board.specs.declared.setup.Described.{Described}
-use Rattle.board.specs.declared.setup.Described.TheVariants as described
+use Rattle.board.specs.Points.{Stored, stored_as}
+use Rattle.board.specs.declared.points.Points.{Points}
+use Rattle.board.specs.Setup.{Outcome}
 use Rattle.track.specs.Rule.{coordinate_last, event_most}
 use Rattle.track.proofs.Numbers.{between-clamped, clamped-most, natural-in, within_in, back}
 use Rattle.track.proofs.Tests.{both, both_is, same_tests}
 use Rattle.board.specs.Points.{stride, keys_of, infos_of, info_at, point_of, count_of, between, command_of, target_of, key_end, info_end}
 use Rattle.board.specs.Query.{in_range, point_read}
-use Rattle.board.specs.Setup.{described_by, allowed_only, point_with, accepted, refused, board_with, put_points, on_described}
+use Rattle.board.specs.Setup.{described_by, allowed_only, point_with, accepted, refused, board_with, put_points}
 use Rattle.board.specs.declared.Board.{Board}
 use Rattle.board.proofs.rules.Broken.{present-small, point-of}
 use Rattle.board.proofs.points.Table.{info-entry}
@@ -41,43 +36,43 @@ use Rattle.board.proofs.rules.Present.{target_below}
 
 -- ---- the point that a call describes
 
-Good? : Described → (Point → Type 0) → Type 0
-Good? (described.Good p) P = P p
-Good? described.Bad P = Unit {0}
+Good? : Option Point → (Point → Type 0) → Type 0
+Good? (Some p) P = P p
+Good? None P = Unit {0}
 
 module _ (P : Point → Type 0) where
-  good-natural : (n : ℤ) (least most : ℕ) (f : ℕ → Described) → ((k : ℕ) → least ≤ k → k ≤ most → Good? (f k) P) →
-      Good? (on_natural (natural_of n least most) f described.Bad) P
+  good-natural : (n : ℤ) (least most : ℕ) (f : ℕ → Option Point) → ((k : ℕ) → least ≤ k → k ≤ most → Good? (f k) P) →
+      Good? (on_some (natural_of n least most) f None) P
   unfolding Good?
   good-natural n least most f h = go (natural_of n least most) refl
     where
-      go : (r : Natural) → natural_of n least most ≡ r → Good? (on_natural r f described.Bad) P
-      go (natural.In k) e = let b = natural-in n least most e in h k b.1 b.2
-      go natural.Outside e = tt
+      go : (r : Option ℕ) → natural_of n least most ≡ r → Good? (on_some r f None) P
+      go (Some k) e = let b = natural-in n least most e in h k b.1 b.2
+      go None e = tt
 
-  good-place : (low high : ℕ) (q : Place) (f : Coordinate → Described) → ((c : Coordinate) → low ≤ c.0 → c.0 ≤ high → Good? (f c) P) →
-      Good? (on_place (within low high q) f described.Bad) P
+  good-place : (low high : ℕ) (q : Option Coordinate) (f : Coordinate → Option Point) → ((c : Coordinate) → low ≤ c.0 → c.0 ≤ high → Good? (f c) P) →
+      Good? (on_some (within low high q) f None) P
   unfolding Good?
   good-place low high q f h = go (within low high q) refl
     where
-      go : (r : Place) → within low high q ≡ r → Good? (on_place r f described.Bad) P
-      go (place.At c) e = let b = within_in low high q e in h c b.0 b.1
-      go place.Outside e = tt
+      go : (r : Option Coordinate) → within low high q ≡ r → Good? (on_some r f None) P
+      go (Some c) e = let b = within_in low high q e in h c b.0 b.1
+      go None e = tt
 
   good-allowed : (present : ℕ) (p : Point) → (allowed_test present p ≡ true → P p) → Good? (allowed_only present p) P
   unfolding Good?
   good-allowed present p h = go (allowed_test present p) refl
     where
-      go : (b : Bool) → allowed_test present p ≡ b → Good? (cond b (described.Good p) described.Bad) P
+      go : (b : Bool) → allowed_test present p ≡ b → Good? (cond b (Some p) None) P
       go true e = h e
       go false e = tt
 
 -- a point that is described for a present track keeps the rules of a point
 pub described-rule : (present i : ℕ) (ts : List Track) (position event wait command target : ℤ) {p : Point} → is_present present i ≡ true →
-    described_by present i (track_at ts i) position event wait command target ≡ described.Good p → PointRule present ts p
+    described_by present i (track_at ts i) position event wait command target ≡ Some p → PointRule present ts p
 unfolding described_by Good? place_test
 described-rule present i ts position event wait command target h e =
-    subst (λ (r : Described). Good? r (PointRule present ts)) e
+    subst (λ (r : Option Point). Good? r (PointRule present ts)) e
     (good-place (PointRule present ts) (track_at ts i).min.0 (track_at ts i).max.0 (coordinate_of position) _
     (λ l low high. good-natural (PointRule present ts) event 1 event_most _
     (λ ev _ _. good-natural (PointRule present ts) wait 0 1 _
@@ -169,39 +164,26 @@ counted b u i from to {x} {y} {z} ex ey ez en =
 pub found-small : {r d : ℕ} → r ≡ d → (r ≡ 0 → ⊥) → ((d ≡ 0 → ⊥) → d < info_end) → r < info_end
 found-small e n f = let h = f (λ z. n (e ∙ z)) in omega arith
 
-pub point-absent : (k : ℕ) {r d : ℕ} → r ≡ d → r ≡ 0 → point.Refused 4 ≡ point_read k d
-point-absent k e h = simp (eq-eqb _ _ (sym e ∙ h))
-
-pub point-shown : (k : ℕ) {r d : ℕ} {p : Point} → r ≡ d → (r ≡ 0 → ⊥) → p ≡ point_of k r → point.Found p ≡ point_read k d
-point-shown k {r} {d} e n q = ap point.Found (q ∙ ap (point_of k) e) ∙ simp (ne_eqb d 0 (λ z. n (e ∙ z)))
+pub point-shown : (k : ℕ) {r d : ℕ} {p : Point} → r ≡ d → (r ≡ 0 → ⊥) → p ≡ point_of k r → Ok p ≡ point_read k d
+point-shown k {r} {d} e n q = ap Ok (q ∙ ap (point_of k) e) ∙ simp (ne_eqb d 0 (λ z. n (e ∙ z)))
 
 pub track-added : (b : Board) (i : ℕ) {w : ℕ} {t u : Track} → t ≡ u → w ≡ b.present + 2 ^ i →
     accepted (board_with b (set b.tracks i t) w b.points b.held) ≡ accepted (board_with b (set b.tracks i u) (b.present + 2 ^ i) b.points b.held)
 track-added b i e q = λ j. accepted (board_with b (set b.tracks i (e j)) (q j) b.points b.held)
 
--- ---- the ways out of `set_point` and `drop_point`, where s is the table after the change
+-- ---- the ways out of `set_point`, where o is the table after the change, or none
 
-module _ (b : Board) (refusal : ℕ) {s x : Stored} (e : s ≡ x) where
-  pub points-refused : s.done ≡ false → {r : Outcome} → r ≡ refused refusal b → r ≡ put_points b refusal x
-  points-refused h q = q ∙ simp (ap (λ (y : Stored). y.done) (sym e) ∙ h)
+module _ (b : Board) (refusal : ℕ) {o : Option Points} {x : Stored} (e : stored_as b.points o ≡ x) where
+  pub points-refused : o ≡ None → {r : Outcome} → r ≡ refused refusal b → r ≡ put_points b refusal x
+  points-refused h q = q ∙ ap (put_points b refusal) (ap (stored_as b.points) (sym h) ∙ e)
 
-  pub points-put : s.done ≡ true → {r : Outcome} → r ≡ accepted (board_with b b.tracks b.present s.points b.held) →
-      r ≡ put_points b refusal x
-  points-put h q =
-      q
-      ∙ ap (λ (y : Stored). accepted (board_with b b.tracks b.present y.points b.held)) e
-      ∙ simp (ap (λ (y : Stored). y.done) (sym e) ∙ h)
+  pub points-put : {t : Points} → o ≡ Some t → accepted (board_with b b.tracks b.present t b.held) ≡ put_points b refusal x
+  points-put h = ap (put_points b refusal) (ap (stored_as b.points) (sym h) ∙ e)
 
 -- what a caller learns of `describe` at the numbers that it passed on, which the code reads back from their bits
-pub described-told : (present i : ℕ) (owner : Track) {position event wait command target : ℤ} {r x : Described} → SFits w64 position → SFits w64 event →
+pub described-told : (present i : ℕ) (owner : Track) {position event wait command target : ℤ} {r x : Option Point} → SFits w64 position → SFits w64 event →
     SFits w64 wait → SFits w64 command → SFits w64 target →
     r ≡ described_by present i owner (back position) (back event) (back wait) (back command) (back target) → r ≡ x →
     described_by present i owner position event wait command target ≡ x
 described-told present i owner fp fe fw fc ft e q =
     sym (λ j. described_by present i owner (to_z-of_z fp j) (to_z-of_z fe j) (to_z-of_z fw j) (to_z-of_z fc j) (to_z-of_z ft j)) ∙ sym e ∙ q
-
-pub described-bad : (b : Board) {d : Described} → d ≡ described.Bad → {r : Outcome} → r ≡ refused 3 b → r ≡ on_described b d
-described-bad b e q = q ∙ ap (on_described b) (sym e)
-
-pub described-good : (b : Board) {d : Described} {p : Point} → d ≡ described.Good p → {r : Outcome} → r ≡ on_described b (described.Good p) → r ≡ on_described b d
-described-good b e q = q ∙ ap (on_described b) (sym e)

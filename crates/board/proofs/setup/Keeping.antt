@@ -21,7 +21,7 @@ use Rattle.track.proofs.Follows.{SameFollower, follower-same, following-sound}
 use Rattle.board.specs.declared.Board.{Board}
 use Rattle.board.specs.declared.points.Point.{Point}
 use Rattle.board.specs.declared.points.Points.{Points}
-use Rattle.board.specs.declared.setup.Outcome.{Outcome}
+use Rattle.board.specs.Setup.{Outcome}
 use Rattle.board.specs.Points.{ascending_from, no_points, point_of, key_of, info_of, stored_in, dropped_from, track_count}
 use Rattle.board.specs.Board.{track_at, no_track, is_present, master_test, PointRule, Unbroken, fresh_board}
 use Rattle.board.specs.Setup.{board_with, set_up, add_track, set_point, drop_point, clear_board}

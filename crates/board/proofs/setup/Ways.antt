@@ -1,4 +1,5 @@
 -- The ways of each call: what holds of its refusals and of what it accepts holds of its outcome.
+use Rattle.std.specs.Prelude.{Option, Some, None}
 use Prim.Native.Nat.{ℕ, ◌+◌, ◌^◌, ◌≤◌, ◌<◌}
 use mathlib.Core.Path.{◌≡◌, refl}
 use mathlib.Core.Bool.{true, false}
@@ -11,26 +12,22 @@ use mathlib.Core.Bool.{not, ◌&&◌}
 use borrow.Author.Tests.{ltb-true, eqb-true, eqb-false, not-true}
 use Rattle.track.specs.declared.Track.{Track}
 use Rattle.track.specs.declared.Coordinate.{Coordinate}
-use Rattle.track.specs.declared.number.Natural.{Natural}
-use Rattle.track.specs.declared.number.Natural.TheVariants as natural
-use Rattle.track.specs.declared.number.Place.{Place}
-use Rattle.track.specs.declared.number.Place.TheVariants as place
-use Rattle.track.specs.declared.setup.Answer.TheVariants.{Refused}
+use Rattle.track.specs.declared.refusal.Refusal.{Refusal}
+use Rattle.track.specs.declared.refusal.Refusal.TheVariants as refusal
+use Rattle.track.specs.Refusal.{Refused, number_of}
 use Rattle.track.specs.declared.setup.Change.{Change}
 use Rattle.track.specs.declared.setup.Change.TheVariants as change
-use Rattle.track.specs.declared.setup.Changed.{Changed}
+use Rattle.track.specs.Setup.{Changed}
 use Rattle.track.specs.Rule.{STOPPED, coordinate_last, rate_most, new_track}
 use Rattle.track.specs.Follow.{following}
-use Rattle.track.specs.Number.{natural_of, coordinate_of, within, on_natural, on_place}
+use Rattle.track.specs.Number.{natural_of, coordinate_of, within, on_some}
 use Rattle.track.specs.Setup.{settled, permits, start_set, end_set, loops_set, repeat_set, direction_set, action_set, jump_to, rate_set, set_by, changed_by}
 use Rattle.track.proofs.Tests.{cond_cases, both}
 use Rattle.track.proofs.Numbers.{natural-in, value-coordinate}
 use Rattle.board.specs.declared.Board.{Board}
 use Rattle.board.specs.declared.points.Point.{Point}
-use Rattle.board.specs.declared.points.Stored.{Stored}
-use Rattle.board.specs.declared.setup.Outcome.{Outcome}
-use Rattle.board.specs.declared.setup.Described.{Described}
-use Rattle.board.specs.declared.setup.Described.TheVariants as described
+use Rattle.board.specs.Points.{Stored}
+use Rattle.board.specs.Setup.{Outcome}
 use Rattle.board.specs.Points.{key, key_of, info_of, stored_in, dropped_from, track_count}
 use Rattle.board.specs.Board.{track_at, is_present, PointRule, unbroken_test, found_in}
 use Rattle.board.specs.Setup.{accepted, refused, board_with, on_unbroken, on_track, put_track, put_points, on_described, described_by, set_up, add_track, set_point, drop_point, clear_board}
@@ -41,29 +38,29 @@ use Rattle.board.proofs.setup.Guards.{described-rule}
 -- ---- a number or a position
 
 -- what is done with a number in its range, and what with one outside
-pub by-natural : {A : Type 0} (P : A → Type 0) (n : Natural) (f : ℕ → A) (x : A) → ((k : ℕ) → n ≡ natural.In k → P (f k)) → P x →
-    P (on_natural n f x)
-by-natural P (natural.In k) f x does other = does k refl
-by-natural P natural.Outside f x does other = other
+pub by-natural : {A : Type 0} (P : A → Type 0) (n : Option ℕ) (f : ℕ → A) (x : A) → ((k : ℕ) → n ≡ Some k → P (f k)) → P x →
+    P (on_some n f x)
+by-natural P (Some k) f x does other = does k refl
+by-natural P None f x does other = other
 
-by_place : {A : Type 0} (P : A → Type 0) (p : Place) (f : Coordinate → A) (x : A) → ((c : Coordinate) → p ≡ place.At c → P (f c)) → P x →
-    P (on_place p f x)
-by_place P (place.At c) f x does other = does c refl
-by_place P place.Outside f x does other = other
+pub by_place : {A : Type 0} (P : A → Type 0) (p : Option Coordinate) (f : Coordinate → A) (x : A) → ((c : Coordinate) → p ≡ Some c → P (f c)) → P x →
+    P (on_some p f x)
+by_place P (Some c) f x does other = does c refl
+by_place P None f x does other = other
 
 -- ---- the six calls
 
-module _ (b : Board) (P : Outcome → Type 0) (declines : (n : ℕ) → P (refused n b)) where
+module _ (b : Board) (P : Outcome → Type 0) (declines : (e : Refusal) → P (refused (number_of e) b)) where
   on-board : {o : Outcome} → P o → P (on_unbroken b o)
-  on-board h = cond_cases P (unbroken_test b) (λ _. h) (λ _. declines 3)
+  on-board h = cond_cases P (unbroken_test b) (λ _. h) (λ _. declines refusal.Value)
 
   on-track : (track : ℤ) (f : ℕ → Outcome) → ((i : ℕ) → is_present b.present i ≡ true → P (f i)) → P (on_track b track f)
   on-track track f does =
-      by-natural P (found_in b.present track) f (refused 1 b) (λ i e. does i (found_in_lem b.present track e)) (declines 1)
+      by-natural P (found_in b.present track) f (refused 1 b) (λ i e. does i (found_in_lem b.present track e)) (declines refusal.Track)
 
-  on-points : (refusal : ℕ) (s : Stored) →
-      (s.done ≡ true → P (accepted (board_with b b.tracks b.present s.points b.held))) → P (put_points b refusal s)
-  on-points refusal s does = cond_cases P s.done does (λ _. declines refusal)
+  on-points : (e : Refusal) (s : Stored) →
+      (s.done ≡ true → P (accepted (board_with b b.tracks b.present s.points b.held))) → P (put_points b (number_of e) s)
+  on-points e s does = cond_cases P s.done does (λ _. declines e)
 
   -- a set-up call is refused, or puts a changed track in the place of a present one
   pub set-up-ways : (track : ℤ) (c : Change) →
@@ -80,12 +77,12 @@ module _ (b : Board) (P : Outcome → Type 0) (declines : (n : ℕ) → P (refus
   add-track-ways number min max does =
       on-board
       (by-natural P (natural_of number 0 15) _ (refused 1 b)
-      (λ i ei. cond_cases P (is_present b.present i) (λ _. declines 6)
+      (λ i ei. cond_cases P (is_present b.present i) (λ _. declines refusal.Present)
       (λ absent. by_place P (coordinate_of min) _ (refused 3 b)
       (λ low el. by_place P (coordinate_of max) _ (refused 3 b)
       (λ high eh. cond_cases P (ltb low.0 high.0)
       (λ l. does i low high (omega (arith, natural-in number 0 15 ei)) absent (ltb-true _ _ l) (value-coordinate max eh).1)
-      (λ _. declines 3)) (declines 3)) (declines 3))) (declines 1))
+      (λ _. declines refusal.Value)) (declines refusal.Value)) (declines refusal.Value))) (declines refusal.Track))
 
   -- a point is refused, or stored with every rule kept
   pub set-point-ways : (track position event wait command target : ℤ) →
@@ -98,11 +95,11 @@ module _ (b : Board) (P : Outcome → Type 0) (declines : (n : ℕ) → P (refus
       (on-track track _
       (λ i present. cond_cases P (settled (track_at b.tracks i).mode)
       (λ _. go (described_by b.present i (track_at b.tracks i) position event wait command target)
-      (λ p e. described-rule b.present i b.tracks position event wait command target present e)) (λ _. declines 2)))
+      (λ p e. described-rule b.present i b.tracks position event wait command target present e)) (λ _. declines refusal.Mode)))
     where
-      go : (d : Described) → ((p : Point) → d ≡ described.Good p → PointRule b.present b.tracks p) → P (on_described b d)
-      go (described.Good p) rule = on-points 5 (stored_in b.points (key_of p) (info_of p)) (does p (rule p refl))
-      go described.Bad rule = declines 3
+      go : (d : Option Point) → ((p : Point) → d ≡ Some p → PointRule b.present b.tracks p) → P (on_described b d)
+      go (Some p) rule = on-points refusal.Full (stored_in b.points (key_of p) (info_of p)) (does p (rule p refl))
+      go None rule = declines refusal.Value
 
   -- a drop is refused, or takes a point out
   pub drop-point-ways : (track position : ℤ) →
@@ -114,7 +111,7 @@ module _ (b : Board) (P : Outcome → Type 0) (declines : (n : ℕ) → P (refus
       (on-track track _
       (λ i _. cond_cases P (settled (track_at b.tracks i).mode)
       (λ _. by_place P (coordinate_of position) _ (refused 4 b)
-      (λ l _. on-points 4 (dropped_from b.points (key i l.0)) (does (key i l.0))) (declines 4)) (λ _. declines 2)))
+      (λ l _. on-points refusal.Point (dropped_from b.points (key i l.0)) (does (key i l.0))) (declines refusal.Point)) (λ _. declines refusal.Mode)))
 
   -- a master is refused, or is another present track, with pairs in their ranges that rise
   pub set-master-ways : (track master : ℤ) (zs : List ℤ) →
@@ -133,7 +130,7 @@ module _ (b : Board) (P : Outcome → Type 0) (declines : (n : ℕ) → P (refus
       (λ h.
       let q = both (not (eqb i m)) (ranged_test zs) h in
       cond_cases P (rising_test (thresholds_in zs))
-      (does i m here there (eqb-true _ _ mode) (eqb-false i m (not-true _ q.0)) q.1) (λ _. declines 10)) (λ _. declines 3)) (λ _. declines 2))))
+      (does i m here there (eqb-true _ _ mode) (eqb-false i m (not-true _ q.0)) q.1) (λ _. declines refusal.Rising)) (λ _. declines refusal.Value)) (λ _. declines refusal.Mode))))
 
   -- a clear is refused, or sets held to 0
   pub clear-ways : P (accepted (board_with b b.tracks b.present b.points 0)) → P (clear_board b)

@@ -9,7 +9,7 @@ use lib.Dec.{leb}
 use borrow.Author.Tests.{leb-true, leb-false}
 use Rattle.track.specs.Rule.{clock_end}
 use Rattle.track.specs.Follow.{apart}
-use Rattle.board.specs.Stay.{Known, Above, Below, Between, Stays}
+use Rattle.board.specs.Stay.{Known, Above, Between, Stays}
 
 -- numbers that are known so are from lo to hi apart
 pub between-apart : (x y w lo hi a b : ℕ) → Known x y w a b → Between x y w lo hi → (lo ≤ apart a b) × (apart a b ≤ hi)
@@ -50,16 +50,6 @@ module _ (x y w v lo hi : ℕ) (low : y ≤ x + v + hi) where
     above-not n p h (inr f) =
         ⊎_elim (λ (e : lo ≡ 0). omega (arith, f.off)) (λ (e : y + lo ≤ x + v). omega (arith, f.off, grows n v p)) off
 
-  -- where the second is ahead
-  module _ (behind : x + v + w + lo ≤ y) (some : 0 < lo) where
-    below_at : (n : ℕ) → 0 < n → x + n * v + w + lo ≤ y → Below (x + n * v) y w lo hi
-    below_at n p h = record { off = h; low = omega (arith, grows n v p) }
-
-    below-not : v < lo + lo → (n : ℕ) → x + n * v + w + lo ≤ y → y < x + suc n * v + w + lo → Between (x + suc n * v) y w lo hi → ⊥
-    below-not slow n h l (inl f) =
-        ⊎_elim (λ (e : lo ≡ 0). omega arith) (λ (e : y + lo ≤ x + suc n * v). omega (arith, suc-mul n v)) f.off
-    below-not slow n h l (inr f) = omega (arith, f.off)
-
 -- what the second does not move
 rests : (y n : ℕ) → y + n * 0 ≡ y
 rests y n = omega (arith, mul-zero n)
@@ -95,14 +85,7 @@ module _ (x y w v lo hi : ℕ) where
         exact = λ l _. absurd (omega arith);
       }
 
-  -- the three ways in which the first tick is out of the range
-  pub stays-low : x + v + hi < y → Stays x y w v 0 lo hi 0
-  stays-low h = stays-none (λ f. go f)
-    where
-      go : Between (x + v) y w lo hi → ⊥
-      go (inl f) = omega (arith, f.low)
-      go (inr f) = omega (arith, f.low)
-
+  -- the first tick is above the range
   pub stays-high : (lo ≡ 0) ⊎ (y + lo ≤ x + v) → y + hi < x + v + w → Stays x y w v 0 lo hi 0
   stays-high off h = stays-none (λ f. go f off)
     where
@@ -110,13 +93,6 @@ module _ (x y w v lo hi : ℕ) where
       go (inl f) o = omega (arith, f.high)
       go (inr f) (inl e) = omega (arith, f.off)
       go (inr f) (inr e) = omega (arith, f.off)
-
-  pub stays-mid : (lo ≡ 0 → ⊥) → x + v < y + lo → y < x + v + w + lo → Stays x y w v 0 lo hi 0
-  stays-mid some a b = stays-none (λ f. go f)
-    where
-      go : Between (x + v) y w lo hi → ⊥
-      go (inl f) = ⊎_elim some (λ (e : y + lo ≤ x + v). omega arith) f.off
-      go (inr f) = omega (arith, f.off)
 
   module _ (low : y ≤ x + v + hi) (p : 0 < v) (r : ℕ) (small : r ≤ clock_end) where
     pub stays-above : (lo ≡ 0) ⊎ (y + lo ≤ x + v) → x + v + w ≤ y + hi → r ≤ (y + hi - w - x) / v
@@ -128,18 +104,6 @@ module _ (x y w v lo hi : ℕ) where
               (omega (arith, (le-div_iff_mul-le {k = v} {x = n} {y = y + hi - w - x} p).0 (omega arith)))));
           exact = λ l f. above-not x y w v lo hi low off (suc r) (omega arith)
               (omega (arith, is l, suc-mul r v, lt-div-mul-add {a = y + hi - w - x} {b = v} p, ap (λ (k : ℕ). k * v) (is l))) (heard (suc r) f);
-        }
-
-    pub stays-below : 0 < lo → v < lo + lo → x + v + w + lo ≤ y → r ≤ (y - w - lo - x) / v
-        → (r < clock_end → r ≡ (y - w - lo - x) / v) → Stays x y w v 0 lo hi r
-    stays-below some slow behind le is =
-        record {
-          small = small;
-          within = λ n q l. told n (inr (below_at x y w v lo hi low behind some n q
-              (omega (arith, (le-div_iff_mul-le {k = v} {x = n} {y = y - w - lo - x} p).0 (omega arith)))));
-          exact = λ l f. below-not x y w v lo hi low behind some slow r
-              (omega (arith, (le-div_iff_mul-le {k = v} {x = r} {y = y - w - lo - x} p).0 le))
-              (omega (arith, is l, suc-mul r v, lt-div-mul-add {a = y - w - lo - x} {b = v} p, ap (λ (k : ℕ). k * v) (is l))) (heard (suc r) f);
         }
 
 -- ---- the two change places

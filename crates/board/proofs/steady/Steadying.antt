@@ -4,7 +4,7 @@ use mathlib.Core.Path.{◌≡◌, refl, sym, ap, ap₂, subst, ◌∙◌}
 use mathlib.Core.Logic.{◌⊎◌, inl, inr, ⊎_elim}
 use mathlib.Core.Bool.{Bool, true, false, cond, ◌||◌, false≢true}
 use mathlib.Core.List.{List}
-use native.Mathlib.Nat.{mul-zero, mul-le-mul_right, mul-div_left}
+use native.Mathlib.Nat.{add-zero, zero-mul, mul-zero, mul-le-mul_right, mul-div_left}
 use native.Mathlib.Omega.{arith}
 use lib.Dec.{eqb}
 use lib.ListN.{length}
@@ -14,7 +14,7 @@ use Rattle.track.specs.Rule.{STOPPED, clock_end, is_due, Valid}
 use Rattle.track.specs.Stride.{span}
 use Rattle.track.specs.Follow.{distance, thresholds_of, up_to_zero, band_of, low_of, high_of, judged, apart, pairs_test}
 use Rattle.track.proofs.Tests.{refuted}
-use Rattle.board.specs.Stay.{Between, Stays, Rounds}
+use Rattle.board.specs.Stay.{Between, Stays, Together, Rounds}
 use Rattle.board.specs.Steady.{
   is_playing,
   goes,
@@ -73,33 +73,38 @@ module _ (t m : Track) (vt : Valid t) (vm : Valid m) (lo hi : ℕ) where
           (scaled-apart t.ticks m.ticks some some-master lo hi (fine t + n * pace t) (fine m + n * pace m) g.0 g.1)
 
   -- each anywhere on its span
-  pub any-within : (r : ℕ) → Stays (least t) (least m + width m) (width t + width m) 0 0 lo hi r → Drifts lo hi t m r
-  any-within r f =
-      record {
-        small = f.small;
-        within = λ n p l.
-            let a = any_at t vt n in
-            let b = any_at m vm n in
-            let z = mul-zero n in
-            between-apart _ _ _ _ _ (distance (goes n t)) (distance (goes n m)) (record { least = omega arith; most = omega arith }) (f.within n p l);
-      }
+  pub any-within : (r : ℕ)
+      → Together (least t * 1) ((least m + width m) * 1) (width t * 1 + width m * 1) (0 * 1) (0 * 1) (lo * (1 * 1)) (hi * (1 * 1)) clock_end clock_end r
+      → Drifts lo hi t m r
+  any-within r f = record { small = omega (arith, f.least); within = λ n p l. go n p l }
+    where
+      go : (n : ℕ) → 0 < n → n ≤ r → Inside n
+      go n p l =
+          let a = any_at t vt n in
+          let b = any_at m vm n in
+          let z = mul-zero n in
+          let g = between-apart _ _ _ _ _ (distance (goes n t)) (distance (goes n m)) (record { least = omega arith; most = omega arith })
+          (f.stays.within n p (omega (arith, f.least))) in
+          (omega (arith, g.0), omega (arith, g.1))
 
   -- the first on its line, the second anywhere on its span
-  pub first-within : (s r : ℕ)
-      → Stays (fine t) ((least m + width m) * t.ticks) (width m * t.ticks) (pace t) 0 (lo * t.ticks) (hi * t.ticks) s
-      → r ≡ min s (straight t) → Drifts lo hi t m r
-  first-within s r f e = record { small = omega (arith, f.small); within = λ n p l. go n p l }
+  pub first-within : (r : ℕ)
+      → Together (fine t * 1) ((least m + width m) * t.ticks) (0 * 1 + width m * t.ticks) (pace t * 1) (0 * t.ticks) (lo * (t.ticks * 1)) (hi * (t.ticks * 1))
+      (straight t) clock_end r
+      → Drifts lo hi t m r
+  first-within r f = record { small = omega (arith, f.least); within = λ n p l. go n p l }
     where
       go : (n : ℕ) → 0 < n → n ≤ r → Inside n
       go n p l =
           let b = any_at m vm n in
           let z = mul-zero n in
+          let o = zero-mul t.ticks in
           let x = mul-le-mul_right {m = least m} {n = distance (goes n m)} t.ticks b.0 in
           let y = mul-le-mul_right {m = distance (goes n m)} {n = least m + width m} t.ticks b.1 in
           let g = between-apart _ _ _ _ _ (fine t + n * pace t) (distance (goes n m) * t.ticks)
-          (record { least = omega arith; most = omega arith }) (f.within n p (omega arith)) in
-          let h = fine-apart t.ticks lo hi some (fine t + n * pace t) (distance (goes n m) * t.ticks) g.0 g.1 in
-          rw (line_at t vt n (omega arith)) (rw (mul-div_left (distance (goes n m)) some) at h)
+          (record { least = omega arith; most = omega arith }) (f.stays.within n p (omega (arith, f.least))) in
+          let h = fine-apart t.ticks lo hi some (fine t + n * pace t) (distance (goes n m) * t.ticks) (omega (arith, g.0)) (omega (arith, g.1)) in
+          rw (line_at t vt n (omega (arith, f.least))) (rw (mul-div_left (distance (goes n m)) some) at h)
 
   -- both round their spans
   pub round-within : is_playing t ≡ true → is_playing m ≡ true → is_due t ≡ false → is_due m ≡ false → t.steps * m.ticks ≡ m.steps * t.ticks
@@ -162,6 +167,13 @@ module _ (t m : Track) (vt : Valid t) (vm : Valid m) (lo hi : ℕ) where
 
       second : r < clock_end → straight m ≤ r → LeavesWithin lo hi (suc r) t m
       second h b = record { at = straight m; before = omega arith; which = inr (inl (straight-turns m vm (omega arith))) }
+
+  -- the same, as two paths tell it
+  pub lines-hold : (r : ℕ)
+      → Together (fine t * m.ticks) ((fine m + 0) * t.ticks) (0 * m.ticks + 0 * t.ticks) (pace t * m.ticks) (pace m * t.ticks)
+      (lo * (t.ticks * m.ticks)) (hi * (t.ticks * m.ticks)) (straight t) (straight m) r
+      → Holds lo hi t m r
+  lines-hold r f = line-holds f.whole r (rw (add-zero (fine m), zero-mul m.ticks, zero-mul t.ticks) at f.stays) (omega (arith, f.least))
 
 -- the other way round
 pub within-turned : (t m : Track) (lo hi r : ℕ) → Drifts lo hi m t r → Drifts lo hi t m r

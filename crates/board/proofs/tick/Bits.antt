@@ -1,7 +1,7 @@
 -- The laws of a walk over a word's members, lowest first, that clears them by `word -= 1 << t`.
 use Prim.Native.Nat.{ℕ, zero, suc, ◌+◌, ◌-◌, ◌*◌, ◌/◌, ◌%◌, ◌^◌, ◌≤◌, ◌<◌, suc-le-suc}
 use mathlib.Core.Path.{◌≡◌, refl, sym, ap, subst, ◌∙◌}
-use mathlib.Core.List.{[], ◌∷◌}
+use mathlib.Core.List.{List, [], ◌∷◌}
 use native.Mathlib.Omega.{arith}
 use native.Mathlib.Nat.{pow-suc, add-zero, zero-add, add-suc, suc-add}
 use lib.ListN.{length}
@@ -131,3 +131,8 @@ each_from P (suc k) n w f =
     go : (d : ℕ) → w % 2 ≡ d → Each P (members_from k (suc n) (w / 2)) → Each P (keep d n (members_from k (suc n) (w / 2)))
     go zero e a = a
     go (suc d) e a = (subst P (add-zero n) (f zero (omega arith) (omega arith)), a)
+
+-- the first member is one of the 16 bits
+pub first_inside : (w i : ℕ) (is : List ℕ) → members w ≡ i ∷ is → i < 16
+unfolding Each
+first_inside w i is e = (rw e at (each_from (λ j. j < 16) 16 0 w (λ j l s. omega arith))).0

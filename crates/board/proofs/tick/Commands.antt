@@ -1,38 +1,35 @@
 -- The commands of a tick: what each leaves and writes, and what all of them do.
+use Rattle.std.specs.Prelude.{Option, Some, None}
 use mathlib.Core.Path.{◌≡◌, refl, sym, ap, subst, ◌∙◌}
 use mathlib.Core.Bool.{Bool, true, false, cond, ◌&&◌, ◌||◌}
 use mathlib.Core.List.{List, [], ◌∷◌, ◌++◌, append-nil, append_assoc}
-use Prim.Native.Nat.{ℕ, zero, suc, ◌+◌, ◌-◌, ◌*◌, ◌≤◌, ◌<◌}
+use Prim.Native.Nat.{ℕ, zero, suc, ◌+◌, ◌-◌, ◌≤◌, ◌<◌}
 use native.Mathlib.Omega.{arith}
-use native.Mathlib.Nat.{add-zero}
 use native.Mathlib.Numerals.{add-one}
 use lib.Dec.{eqb, leb}
-use lib.ListN.{length, drop, set, get_or, length-append, length-set, length-drop, drop_of_length-le}
+use lib.ListN.{length, drop, set, get_or, length-append, length-set, drop_of_length-le}
 use lib.Seq.{set-get_or, drop-cons, get_or-set_other}
 use Rattle.track.specs.declared.Track.{Track}
-use Rattle.track.specs.declared.grid.Decision.{Decision}
-use Rattle.track.specs.declared.grid.Decision.TheVariants as decision
 use Rattle.track.specs.Rule.{STOPPED, PLAYING, PAUSED, WAITING, Valid, entered}
 use Rattle.track.specs.Grid.{PLAY, PAUSE, RESUME, STOP, grid_of}
 use Rattle.track.proofs.Tests.{cond_cases}
 use Rattle.track.proofs.Arrivals.{entered-valid}
 use Rattle.board.specs.declared.log.Record.{Record}
-use Rattle.board.specs.declared.tick.Staged.{Staged}
-use Rattle.board.specs.Log.{write_at, log_bytes, record_width}
+use Rattle.board.specs.Log.{log_bytes}
 use Rattle.board.specs.Board.{no_track, track_at, is_present}
-use Rattle.board.specs.Tick.{Stage, staged, command_records, commanded, obeyed, obeyed_records, run_command, run_all, InfoRule, TracksRule}
+use Rattle.board.specs.Tick.{Room, Stage, staged, command_records, commanded, obeyed, obeyed_records, run_command, run_all, InfoRule, TracksRule}
 use Rattle.board.specs.Points.{ascending_from, command_of, target_of, track_count}
 use Rattle.board.specs.Replay.{Each}
 use Rattle.board.proofs.points.Keys.{ascending-head, ascending-rest}
 use Rattle.board.proofs.points.Rows.{ascending-weaken}
-use Rattle.board.proofs.tick.Staging.{Obeyed, obeyed-most, write-none, written-more, written-long}
+use Rattle.board.proofs.tick.Staging.{obeyed-most, staged-none, staged-more, staged-long}
 
 -- ---- one command
 
 -- a mode that the grid takes a track to is a mode
-abbrev pub Goes? : Decision → Type 0
-Goes? (decision.Goes m) = m ≤ WAITING
-Goes? decision.Refused = Unit {0}
+abbrev pub Goes? : Option ℕ → Type 0
+Goes? (Some m) = m ≤ WAITING
+Goes? None = Unit {0}
 
 pub grid-goes : (mode call : ℕ) → Goes? (grid_of mode call)
 unfolding grid_of
@@ -43,10 +40,10 @@ grid-goes mode call =
     (λ e. cond_cases Goes? (eqb call STOP && leb mode WAITING) (λ e. omega arith) (λ e. tt))))
 
 module _ (P : Track → Type 0) (t : Track) (p : P t) (f : (m : ℕ) → m ≤ WAITING → P (entered t m)) where
-  ruled-keeps : (r : Decision) → Goes? r → P (commanded t r)
+  ruled-keeps : (r : Option ℕ) → Goes? r → P (commanded t r)
   unfolding commanded
-  ruled-keeps (decision.Goes m) g = f m g
-  ruled-keeps decision.Refused g = p
+  ruled-keeps (Some m) g = f m g
+  ruled-keeps None g = p
 
   -- what holds of a track and of what it is in every other mode, a command keeps
   pub obeyed-keeps : (d : ℕ) → P (obeyed d t)
@@ -87,7 +84,7 @@ run-obeyed clock d s = go (eqb (command_of d) 0)
     t : Track
     t = track_at s.tracks (target_of d)
 
-    r : Decision
+    r : Option ℕ
     r = grid_of t.mode (command_of d)
 
     go : (b : Bool) → cond b s (staged (set s.tracks (target_of d) (commanded t r)) (s.records ++ command_records clock d t r) s.reached)
@@ -192,34 +189,26 @@ rule-kept present ts ds j r l =
 -- ---- the turns of the loop over the commands
 
 -- Before turn j: the commands left do from here what all of them do from the start.
-pub record Turns (present clock : ℕ) (ds : List ℕ) (ts₀ : List Track) (xs₀ : List ℕ) (n : ℕ) (ts : List Track) (xs : List ℕ) (k j : ℕ) : Type 0 where
+pub record Turns (present clock : ℕ) (ds : List ℕ) (ts₀ : List Track) (xs₀ : List ℕ) (ts : List Track) (xs : List ℕ) (j : ℕ) : Type 0 where
   pub rule : TracksRule present ts ds
   pub long : length ts ≡ track_count
-  pub room : (k + (length ds - j)) * record_width ≤ length xs
-  pub stage : length xs ≡ length xs₀
+  pub room : Room (length ds - j) xs
   pub tracks : tracks_run clock (drop j ds) ts ≡ tracks_run clock ds ts₀
-  pub count : k + length (records_run clock (drop j ds) ts) ≡ n + length (records_run clock ds ts₀)
-  pub bytes : write_at xs (k * record_width) (log_bytes (records_run clock (drop j ds) ts)) ≡ write_at xs₀ (n * record_width) (log_bytes (records_run clock ds ts₀))
+  pub bytes : xs ++ log_bytes (records_run clock (drop j ds) ts) ≡ xs₀ ++ log_bytes (records_run clock ds ts₀)
 
-module _ (present clock : ℕ) (ds : List ℕ) (ts₀ : List Track) (xs₀ : List ℕ) (n : ℕ) where
+module _ (present clock : ℕ) (ds : List ℕ) (ts₀ : List Track) (xs₀ : List ℕ) where
   -- at first
-  pub turns-start : TracksRule present ts₀ ds → length ts₀ ≡ track_count → (n + length ds) * record_width ≤ length xs₀ → Turns present clock ds ts₀ xs₀ n ts₀ xs₀ n 0
-  turns-start r l h = record { rule = r; long = l; room = omega arith; stage = refl; tracks = refl; count = refl; bytes = refl }
+  pub turns-start : TracksRule present ts₀ ds → length ts₀ ≡ track_count → Room (length ds) xs₀ → Turns present clock ds ts₀ xs₀ ts₀ xs₀ 0
+  turns-start r l h = record { rule = r; long = l; room = omega arith; tracks = refl; bytes = refl }
 
-  module _ (ts : List Track) (xs : List ℕ) (k j : ℕ) (t : Turns present clock ds ts₀ xs₀ n ts xs k j) where
+  module _ (ts : List Track) (xs : List ℕ) (j : ℕ) (t : Turns present clock ds ts₀ xs₀ ts xs j) where
     -- at the end
-    pub turns-end : length ds ≤ j →
-        (ts ≡ tracks_run clock ds ts₀) × ((k ≡ n + length (records_run clock ds ts₀)) × (xs ≡ write_at xs₀ (n * record_width) (log_bytes (records_run clock ds ts₀))))
-    unfolding run_all log_bytes
+    pub turns-end : length ds ≤ j → (ts ≡ tracks_run clock ds ts₀) × (xs ≡ xs₀ ++ log_bytes (records_run clock ds ts₀))
+    unfolding run_all
     turns-end h =
-        let e = drop_of_length-le ds {i = j} h in
-        let a = ap (λ (l : List ℕ). tracks_run clock l ts) e in
-        let b = ap (λ (l : List ℕ). records_run clock l ts) e in (
-          sym a ∙ t.tracks,
-          (
-            sym (add-zero k) ∙ ap (λ (l : List Record). k + length l) (sym b) ∙ t.count,
-            sym (write-none xs (k * record_width)) ∙ ap (λ (l : List Record). write_at xs (k * record_width) (log_bytes l)) (sym b) ∙ t.bytes,
-          ),
+        let e = drop_of_length-le ds {i = j} h in (
+          sym (ap (λ (l : List ℕ). tracks_run clock l ts) e) ∙ t.tracks,
+          staged-none xs (ap (λ (l : List ℕ). records_run clock l ts) e) ∙ t.bytes,
         )
 
     module _ (l : j < length ds) (d : ℕ) (ed : get_or ds j 0 ≡ d) where
@@ -234,31 +223,23 @@ module _ (present clock : ℕ) (ds : List ℕ) (ts₀ : List Track) (xs₀ : Lis
           (subst (λ (d : ℕ). (command_of d ≡ 0 → ⊥) → is_present present (target_of d) ≡ true) ed (t.rule.targets j l) z)
 
       -- after a turn
-      pub turn : (ys : List ℕ) (s : Staged) → Obeyed clock d (track_at ts (target_of d)) xs k ys s
-          → Turns present clock ds ts₀ xs₀ n (set ts (target_of d) s.track) ys s.count (j + 1)
-      turn ys s o =
+      pub turn : {ys : List ℕ} {u : Track} → u ≡ obeyed d (track_at ts (target_of d)) → ys ≡ xs ++ log_bytes (records_in clock d ts)
+          → Turns present clock ds ts₀ xs₀ (set ts (target_of d) u) ys (j + 1)
+      turn {ys} {u} eo es =
           let os = records_in clock d ts in
           let us = obeyed_in d ts in
           let rest = records_run clock (drop (j + 1) ds) us in
           let e : drop j ds ≡ d ∷ drop (j + 1) ds = drop-cons ds j 0 l ∙ (λ i. ed i ∷ drop (sym (add-one j) i) ds) in
-          let et : set ts (target_of d) s.track ≡ us = ap (λ (s : Staged). set ts (target_of d) s.track) o.0 in
-          let ek : s.count ≡ k + length os = ap (λ (s : Staged). s.count) o.0 in
+          let et : set ts (target_of d) u ≡ us = ap (set ts (target_of d)) eo in
           let er : records_run clock (drop j ds) ts ≡ os ++ rest = ap (λ (l : List ℕ). records_run clock l ts) e ∙ records-first clock d (drop (j + 1) ds) ts in
           let eu : tracks_run clock (drop j ds) ts ≡ tracks_run clock (drop (j + 1) ds) us = ap (λ (l : List ℕ). tracks_run clock l ts) e ∙ tracks-first clock d (drop (j + 1) ds) ts in
           let most : length os ≤ 1 = obeyed-most clock d (track_at ts (target_of d)) in
-          let left : length rest ≤ length (drop (j + 1) ds) = run-most clock (drop (j + 1) ds) us in
-          let ld = length-drop (j + 1) ds in
-          let la : length (records_run clock (drop j ds) ts) ≡ length os + length rest = ap length er ∙ length-append os rest in
-          let ly : length ys ≡ length xs = written-long xs k os (ek, o.1) (omega (arith, t.room)) in
-          let w = written-more xs k os rest (ek, o.1) (refl, refl) (omega (arith, t.room)) in
           record {
             rule = subst (λ (us : List Track). TracksRule present us ds) (sym et)
                 (subst (λ (d : ℕ). TracksRule present (obeyed_in d ts) ds) ed (rule-kept present ts ds j t.rule l));
-            long = length-set ts (target_of d) s.track ∙ t.long;
-            room = omega (arith, t.room);
-            stage = ly ∙ t.stage;
+            long = length-set ts (target_of d) u ∙ t.long;
+            room = omega (arith, t.room, most, staged-long xs os es);
             tracks = ap (tracks_run clock (drop (j + 1) ds)) et ∙ sym eu ∙ t.tracks;
-            count = ap (λ (us : List Track). s.count + length (records_run clock (drop (j + 1) ds) us)) et ∙ omega (arith, t.count);
-            bytes = ap (λ (us : List Track). write_at ys (s.count * record_width) (log_bytes (records_run clock (drop (j + 1) ds) us))) et
-                ∙ w.1 ∙ ap (λ (rs : List Record). write_at xs (k * record_width) (log_bytes rs)) (sym er) ∙ t.bytes;
+            bytes = ap (λ (us : List Track). ys ++ log_bytes (records_run clock (drop (j + 1) ds) us)) et
+                ∙ staged-more xs os rest es refl ∙ ap (λ (rs : List Record). xs ++ log_bytes rs) (sym er) ∙ t.bytes;
           }

@@ -9,24 +9,18 @@ use lib.Dec.{eqb}
 use lib.ListN.{length, drop, length-drop, drop_of_length-le}
 use lib.Pow.{pow_mono}
 use lib.Seq.{drop-cons}
-use borrow.Author.Tests.{eqb-true, eq-eqb, ne_eqb}
+use borrow.Author.Tests.{eqb-true}
 use Rattle.track.specs.declared.Track.{Track}
 use Rattle.track.specs.Rule.{PLAYING}
 use Rattle.track.proofs.Tests.{cond_cases}
 use Rattle.board.specs.Board.{no_track, track_at}
-use Rattle.board.specs.Tick.{members, play_bit, playing_word}
+use Rattle.board.specs.Tick.{members, play_bit, playing_word, word_by}
 use Rattle.board.specs.Points.{track_count}
 use Rattle.board.specs.Replay.{Each}
 use Rattle.board.proofs.rules.Broken.{half-bit}
 use Rattle.board.proofs.tick.Bits.{each_from}
 
--- a track's bit
-pub bit-yes : (bit : ℕ) (t : Track) → t.mode ≡ PLAYING → bit ≡ play_bit bit t
-bit-yes bit t e = simp (eq-eqb _ _ e)
-
-pub bit-no : (bit : ℕ) (t : Track) → (t.mode ≡ PLAYING → ⊥) → 0 ≡ play_bit bit t
-bit-no bit t n = simp (ne_eqb _ _ n)
-
+-- a track's bit is one
 pub bit-small : (bit : ℕ) (t : Track) → bit ≤ 1 → play_bit bit t ≤ 1
 bit-small bit t h = cond_cases (λ (n : ℕ). n ≤ 1) (eqb t.mode PLAYING) (λ e. h) (λ e. omega arith)
 
@@ -97,10 +91,24 @@ module _ {bit_of : ℕ → Track → ℕ} {word_of : ℕ → List Track → ℕ}
           ∙ W.more (w / 2 ^ (i - 1)) (track_at ts (i - 1)) (drop i ts) in
           omega arith
 
--- the word of the playing tracks is one
+-- the word of the tracks of which a test holds is one
+pub word-by : (holds : Track → Bool) → WordBy (λ bit t. cond (holds t) bit 0) (word_by holds)
+unfolding word_by
+word-by holds = record { small = λ bit t h. cond_cases (λ (n : ℕ). n ≤ 1) (holds t) (λ e. h) (λ e. omega arith); none = λ w. refl; more = λ w t ts. refl }
+
+-- so is that of the playing tracks
 pub playing-word : WordBy play_bit playing_word
 unfolding playing_word
 playing-word = record { small = bit-small; none = λ w. refl; more = λ w t ts. refl }
+
+-- it is that of the test
+abbrev pub plays : Track → Bool
+plays t = eqb t.mode PLAYING
+
+pub playing-by : (present : ℕ) (ts : List Track) → word_by plays present ts ≡ playing_word present ts
+unfolding word_by playing_word
+playing-by present [] = refl
+playing-by present (t ∷ ts) = ap (λ (w : ℕ). play_bit (present % 2) t + w * 2) (playing-by (present / 2) ts)
 
 -- its members play
 pub players-play : (present : ℕ) (ts : List Track) → Each (λ i. (track_at ts i).mode ≡ PLAYING) (members (playing_word present ts))

@@ -1,14 +1,12 @@
 -- The acts of a track in a tick, a call, an advance and a list of calls, from the walk, the points and the mode grid: no record
 -- is looked at.
-use Rattle.std.specs.Prelude.{ℕ, Bool, true, false, cond, ◌≡◌, List, [], ◌∷◌, ◌++◌, map, eqb, ℤ, length}
+use Rattle.std.specs.Prelude.{ℕ, Bool, true, false, cond, ◌≡◌, List, [], ◌∷◌, ◌++◌, map, eqb, ℤ, length, Option, Some, None}
 use Rattle.track.specs.declared.Track.{Track}
-use Rattle.track.specs.declared.grid.Decision.{Decision}
-use Rattle.track.specs.declared.grid.Decision.TheVariants as decision
 use Rattle.track.specs.declared.setup.Change.{Change}
 use Rattle.track.specs.declared.setup.Change.TheVariants as change
 use Rattle.track.specs.Rule.{STOPPED}
 use Rattle.track.specs.Grid.{PLAY, PAUSE, RESUME, grid_of}
-use Rattle.track.specs.Number.{natural_of, on_natural}
+use Rattle.track.specs.Number.{natural_of, on_some}
 use Rattle.track.specs.Walk.{stops}
 use Rattle.track.specs.Leap.{moves, played}
 use Rattle.board.specs.Points.{keys_of, infos_of, has_key, waits, command_of, target_of}
@@ -40,9 +38,9 @@ unfoldable pub act_of : ℕ → Act
 act_of c = cond (eqb c PLAY) do_play (cond (eqb c PAUSE) do_pause (cond (eqb c RESUME) do_resume do_stop))
 
 -- a command that the grid lets act, or refuses
-abbrev pub ruled : ℕ → Decision → Act
-ruled c (decision.Goes m) = act_of c
-ruled c decision.Refused = exc
+abbrev pub ruled : ℕ → Option ℕ → Act
+ruled c (Some m) = act_of c
+ruled c None = exc
 
 -- the command of a point, if it has one, on its target
 unfoldable pub obey_acts : ℕ → Track → List Act
@@ -76,7 +74,7 @@ tick_acts i b =
 
 -- the number that a call gives is i
 abbrev pub is_number : ℕ → ℤ → Bool
-is_number i track = on_natural (natural_of track 0 15) (λ k. eqb k i) false
+is_number i track = on_some (natural_of track 0 15) (λ k. eqb k i) false
 
 -- a call on track i
 unfoldable pub is_on : ℕ → Call → Bool

@@ -1,68 +1,60 @@
--- The laws of fields: what a scan for the next comma finds.
-use Prim.Native.Nat.{ℕ, suc, ◌+◌, ◌-◌, ◌≤◌, ◌<◌}
+-- The laws of fields: what is split off is the first of them.
+use Prim.Native.Nat.{ℕ, suc, ◌<◌}
 use mathlib.Core.Path.{◌≡◌, refl, sym, ap, ◌∙◌}
-use mathlib.Core.List.{List, [], ◌∷◌}
-use mathlib.Core.Bool.{Bool, true, false, cond}
+use mathlib.Core.List.{List, [], ◌∷◌, ◌++◌}
+use mathlib.Core.Bool.{Bool, true, false}
 use native.Mathlib.Omega.{arith}
-use native.Mathlib.Numerals.{add-one}
-use lib.ListN.{length, get_or, drop, take, drop_of_length-le, length-drop}
-use lib.Seq.{drop-cons, drop-drop}
+use lib.ListN.{length, get_or, length-append}
 use lib.Dec.{eqb}
-use borrow.Author.Tests.{eq-eqb, ne_eqb}
+use borrow.Author.Tests.{eqb-true}
+use Rattle.std.proofs.Common.{Option, Some, None, is_some, MatchOption}
+use Rattle.std.specs.Bool.{MatchBool}
+use Rattle.std.specs.List.{IsFirstMatchOrLen}
+use Rattle.std.proofs.lemmas.List.{get_or_append_left, get_or_at}
 use Rattle.script.specs.Lines.{ahead}
-use Rattle.script.specs.Grammar.{fields_of, up_to, behind}
+use Rattle.script.specs.Grammar.{fields_of}
 
--- ---- the next byte that is `by`
+-- no comma in a field
+abbrev Whole : List ℕ → Type 0
+Whole x = (k : ℕ) → k < length x → eqb (get_or x k 0) 44 ≡ false
 
-module _ (by : ℕ) (s : List ℕ) (i : ℕ) where
-  pub up-found : i < length s → get_or s i 0 ≡ by → i ≡ i + up_to by (drop i s)
-  unfolding up_to
-  up-found h e = rw (drop-cons s i 0 h, eq-eqb _ _ e) (omega arith)
+later : (b : ℕ) (x : List ℕ) → Whole (b ∷ x) → Whole x
+later b x h k l = h (suc k) (omega arith)
 
-  pub up_next : i < length s → (get_or s i 0 ≡ by → ⊥) → i + 1 + up_to by (drop (i + 1) s) ≡ i + up_to by (drop i s)
-  unfolding up_to
-  up_next h e = rw (drop-cons s i 0 h, ne_eqb _ _ e, add-one i) (omega arith)
+last-field : (x : List ℕ) → Whole x → fields_of x ≡ x ∷ []
+unfolding fields_of
+last-field [] h = refl
+last-field (b ∷ x) h = rw (h 0 (omega arith)) (ap (ahead b) (last-field x (later b x h)))
 
-  pub up-end : length s ≤ i → i ≡ i + up_to by (drop i s)
-  unfolding up_to
-  up-end h = rw (drop_of_length-le s {i = i} h) (omega arith)
+field-before : (x s : List ℕ) → Whole x → fields_of (x ++ (44 ∷ s)) ≡ x ∷ fields_of s
+unfolding fields_of
+field-before [] s h = refl
+field-before (b ∷ x) s h = rw (h 0 (omega arith)) (ap (ahead b) (field-before x s (later b x h)))
 
-up_le : (by : ℕ) (s : List ℕ) → up_to by s ≤ length s
-unfolding up_to
-up_le by [] = omega arith
-up_le by (b ∷ s) = go (eqb b by) (up_le by s)
-  where
-    go : (t : Bool) → up_to by s ≤ length s → cond t 0 (suc (up_to by s)) ≤ suc (length s)
-    go true h = omega arith
-    go false h = omega arith
+-- the fields left, none after the last
+abbrev pub left : Bool → List ℕ → List (List ℕ)
+left true s = []
+left false s = fields_of s
 
-pub up-within : (by : ℕ) (s : List ℕ) (i : ℕ) → i ≤ length s → i + up_to by (drop i s) ≤ length s
-up-within by s i h = omega (arith, up_le by (drop i s), length-drop i s)
+-- the iterator from s on gave x, and is left at t
+pub field-next : (s x t : List ℕ) (done : Bool) → MatchBool done (s ≡ x) ((y : ℕ) × (s ≡ x ++ (y ∷ t))) →
+    IsFirstMatchOrLen (λ b. eqb b 44) s (length x) → fields_of s ≡ x ∷ left done t
+field-next s x t true e h = ap fields_of e ∙ last-field x (λ k l. ap (λ (z : List ℕ). eqb (get_or z k 0) 44) (sym e) ∙ h.0 k 0 (omega arith) l)
+field-next s x t false (y, e) h =
+    let long : length x < length s = omega (arith, ap length e, length-append x (y ∷ t)) in
+    let comma : y ≡ 44 = eqb-true y 44 (ap (λ (b : ℕ). eqb b 44) (sym (ap (λ (z : List ℕ). get_or z (length x) 0) e ∙ get_or_at x y t 0 (length x) refl)) ∙ h.1 long 0) in
+    let whole : Whole x = λ k l. ap (λ (b : ℕ). eqb b 44) (sym (ap (λ (z : List ℕ). get_or z k 0) e ∙ get_or_append_left x (y ∷ t) 0 k l)) ∙ h.0 k 0 (omega arith) l in
+    ap fields_of (e ∙ ap (λ (b : ℕ). x ++ (b ∷ t)) comma) ∙ field-before x t whole
 
--- ---- fields
+pub field-left : (s x t : List ℕ) (before done : Bool) → before ≡ false → MatchBool done (s ≡ x) ((y : ℕ) × (s ≡ x ++ (y ∷ t))) →
+    IsFirstMatchOrLen (λ b. eqb b 44) s (length x) → left before s ≡ x ∷ left done t
+field-left s x t before done b e h = ap (λ (u : Bool). left u s) b ∙ field-next s x t done e h
 
--- the first field, and those behind it
-pub fields-first : (s : List ℕ) → fields_of s ≡ take (up_to 44 s) s ∷ behind (drop (up_to 44 s) s)
-unfolding fields_of up_to
-fields-first [] = refl
-fields-first (b ∷ s) = go (eqb b 44) (fields-first s)
-  where
-    go : (t : Bool) → fields_of s ≡ take (up_to 44 s) s ∷ behind (drop (up_to 44 s) s) →
-        cond t ([] ∷ fields_of s) (ahead b (fields_of s))
-        ≡ take (cond t 0 (suc (up_to 44 s))) (b ∷ s) ∷ behind (drop (cond t 0 (suc (up_to 44 s))) (b ∷ s))
-    go true e = refl
-    go false e = ap (ahead b) e
+-- what is said of a value that is there, and of none
+pub at-some : {A : Type 0} (P : Type 0) (Q : A → Type 0) (o : Option A) → true ≡ is_some o → MatchOption o P Q → (x : A) × Q x
+at-some P Q (Some x) e h = (x, h)
+at-some P Q None e h = cc
 
--- the field behind a comma, up to the next
-pub behind-next : (s : List ℕ) (at e : ℕ) → at < length s → e ≡ at + 1 + up_to 44 (drop (at + 1) s) →
-    behind (drop at s) ≡ take (e - (at + 1)) (drop (at + 1) s) ∷ behind (drop e s)
-behind-next s at e h q =
-    let k : e - (at + 1) ≡ up_to 44 (drop (at + 1) s) = omega arith in
-    ap behind (drop-cons s at 0 h)
-    ∙ ap fields_of (ap (λ (j : ℕ). drop j s) (sym (add-one at)))
-    ∙ fields-first (drop (at + 1) s)
-    ∙ rw (drop-drop, ← q, k) refl
-
--- past the end there is none
-pub behind-end : (s : List ℕ) (at : ℕ) → length s ≤ at → behind (drop at s) ≡ []
-behind-end s at h = ap behind (drop_of_length-le s {i = at} h)
+pub at-none : {A : Type 0} (P : Type 0) (Q : A → Type 0) (o : Option A) → false ≡ is_some o → MatchOption o P Q → P
+at-none P Q None e h = h
+at-none P Q (Some x) e h = cc

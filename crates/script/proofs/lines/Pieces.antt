@@ -1,64 +1,159 @@
 -- The laws of lines that come in pieces: however the input is cut, its lines are the same.
-use Prim.Native.Nat.{ℕ, ◌+◌, ◌%◌, ◌≤◌, ◌<◌}
+use Prim.Native.Nat.{ℕ, zero, suc, ◌+◌, ◌-◌, ◌%◌, ◌≤◌, ◌<◌, min}
 use mathlib.Core.Path.{◌≡◌, refl, sym, ap, ◌∙◌}
-use mathlib.Core.List.{List, [], ◌∷◌, ◌++◌, append_assoc}
+use mathlib.Core.List.{List, [], ◌∷◌, ◌++◌, append_assoc, append-nil}
 use mathlib.Core.Bool.{Bool, true, false, cond}
 use native.Mathlib.Omega.{arith}
 use native.Mathlib.Numerals.{add-one}
-use lib.ListN.{length, get_or, drop, take, set, drop_of_length-le, length-append}
-use lib.Seq.{drop-cons, take-suc-set, length-take-le, take_all, take-append-le, append_snoc}
-use lib.Dec.{leb, eqb}
-use borrow.Author.Tests.{eq-eqb, ne_eqb, leb-true, leb-false}
-use Rattle.script.specs.Lines.{ahead, lines_of, number_after, number_behind, kept, more, lines_in, open_after, last_line, lines_over, joined_pieces}
-
--- ---- a byte
-
-module _ (p : List ℕ) (s : List ℕ) (i : ℕ) where
-  pub in-ended : i < length s → get_or s i 0 ≡ 10 → lines_in p (drop i s) ≡ more p (get_or s i 0) ∷ lines_in [] (drop (i + 1) s)
-  unfolding lines_in
-  in-ended h e = rw (drop-cons s i 0 h, eq-eqb _ _ e, add-one i) refl
-
-  pub after-ended : i < length s → get_or s i 0 ≡ 10 → open_after p (drop i s) ≡ open_after [] (drop (i + 1) s)
-  unfolding open_after
-  after-ended h e = rw (drop-cons s i 0 h, eq-eqb _ _ e, add-one i) refl
-
-  pub in-more : i < length s → (get_or s i 0 ≡ 10 → ⊥) → lines_in p (drop i s) ≡ lines_in (more p (get_or s i 0)) (drop (i + 1) s)
-  unfolding lines_in
-  in-more h e = rw (drop-cons s i 0 h, ne_eqb _ _ e, add-one i) refl
-
-  pub after_more : i < length s → (get_or s i 0 ≡ 10 → ⊥) → open_after p (drop i s) ≡ open_after (more p (get_or s i 0)) (drop (i + 1) s)
-  unfolding open_after
-  after_more h e = rw (drop-cons s i 0 h, ne_eqb _ _ e, add-one i) refl
-
-  pub in-done : length s ≤ i → lines_in p (drop i s) ≡ []
-  unfolding lines_in
-  in-done h = rw (drop_of_length-le s {i = i} h) refl
-
-  pub after-done : length s ≤ i → open_after p (drop i s) ≡ p
-  unfolding open_after
-  after-done h = rw (drop_of_length-le s {i = i} h) refl
+use lib.ListN.{length, get_or, drop, take, length-take, length-drop, drop_of_length-le}
+use lib.Seq.{drop-drop, length-take-le, take_all, take_at, take-append-le, take-append-add, append_snoc}
+use lib.Dec.{leb, ltb, eqb}
+use borrow.Author.Tests.{leb-true, leb-false, ltb-false}
+use Rattle.std.proofs.Common.{Some, None}
+use Rattle.std.specs.List.{position, position_or_len}
+use Rattle.std.proofs.lemmas.List.{take_min}
+use Rattle.std.proofs.lemmas.List.Sums.{fails_before_first}
+use Rattle.std.proofs.lemmas.List.Quantifiers.{position-Some}
+use Rattle.script.specs.declared.lines.Reader.{Reader}
+use Rattle.script.specs.Lines.{ahead, lines_of, number_after, number_behind, kept, more, lines_in, open_after, last_line, lines_over, joined_pieces, kept_by, ReadsOn}
 
 -- ---- what is kept
 
-module _ (k : ℕ) (bs : List ℕ) (b : ℕ) (l : length bs ≡ 65) where
-  pub kept_put : k < 65 → take (k + 1) (set bs k b) ≡ more (take k bs) b
-  kept_put h =
-      let m = length-take-le k bs (omega arith) in
-      let n = length-append (take k bs) (b ∷ []) in
-      ap (λ (j : ℕ). take j (set bs k b)) (add-one k)
-      ∙ take-suc-set bs k b (omega arith)
-      ∙ sym (take_all 65 (take k bs ++ (b ∷ [])) (omega arith))
+-- a byte more of what is kept
+more-kept : (p : List ℕ) (b : ℕ) → more (take 65 p) b ≡ take 65 (p ++ (b ∷ []))
+more-kept p b = go (leb (length p) 65) refl
+  where
+    go : (t : Bool) → leb (length p) 65 ≡ t → more (take 65 p) b ≡ take 65 (p ++ (b ∷ []))
+    go true e = ap (λ (x : List ℕ). more x b) (take_all 65 p (leb-true (length p) 65 e))
+    go false e =
+        let h = leb-false (length p) 65 e in
+        let m = length-take-le 65 p (omega arith) in
+        take-append-le 65 (take 65 p) (b ∷ []) (omega arith)
+        ∙ take_all 65 (take 65 p) (omega arith)
+        ∙ sym (take-append-le 65 p (b ∷ []) (omega arith))
 
-  pub kept_full : 65 ≤ k → take k bs ≡ more (take k bs) b
-  kept_full h =
-      let e = take_all k bs (omega arith) in
-      e
-      ∙ sym (take-append-le 65 bs (b ∷ []) (omega arith) ∙ take_all 65 bs (omega arith))
-      ∙ ap (λ (x : List ℕ). more x b) (sym e)
+-- no byte of a text is an LF
+abbrev Whole : List ℕ → Type 0
+Whole s = (k : ℕ) → k < length s → eqb (get_or s k 0) 10 ≡ false
 
-  -- past its end a line has no more
-  pub kept-least : 65 < k → take 65 bs ≡ take k bs
-  kept-least h = take_all 65 bs (omega arith) ∙ sym (take_all k bs (omega arith))
+-- a text without LF is kept behind what is
+run-in : (p s : List ℕ) → Whole s → lines_in (take 65 p) s ≡ []
+unfolding lines_in
+run-in p [] h = refl
+run-in p (b ∷ s) h =
+    rw (h 0 (omega arith))
+    (ap (λ (x : List ℕ). lines_in x s) (more-kept p b) ∙ run-in (p ++ (b ∷ [])) s (λ k l. h (suc k) (omega arith)))
+
+run-after : (p s : List ℕ) → Whole s → open_after (take 65 p) s ≡ take 65 (p ++ s)
+unfolding open_after
+run-after p [] h = ap (take 65) (sym (append-nil p))
+run-after p (b ∷ s) h =
+    rw (h 0 (omega arith))
+    (ap (λ (x : List ℕ). open_after x s) (more-kept p b)
+    ∙ run-after (p ++ (b ∷ [])) s (λ k l. h (suc k) (omega arith))
+    ∙ ap (take 65) (append_assoc p (b ∷ []) s))
+
+-- and a line to its LF
+end-in : (p s : List ℕ) (i : ℕ) → i < length s → eqb (get_or s i 0) 10 ≡ true → ((k : ℕ) → k < i → eqb (get_or s k 0) 10 ≡ false) →
+    lines_in (take 65 p) s ≡ take 65 (p ++ take (suc i) s) ∷ lines_in [] (drop (suc i) s)
+unfolding lines_in
+end-in p [] i l e h = absurd (omega arith)
+end-in p (b ∷ s) zero l e h = rw e (ap (λ (x : List ℕ). x ∷ lines_in [] s) (more-kept p b))
+end-in p (b ∷ s) (suc i) l e h =
+    rw (h 0 (omega arith))
+    (ap (λ (x : List ℕ). lines_in x s) (more-kept p b)
+    ∙ end-in (p ++ (b ∷ [])) s i (omega arith) e (λ k m. h (suc k) (omega arith))
+    ∙ ap (λ (x : List ℕ). take 65 x ∷ lines_in [] (drop (suc i) s)) (append_assoc p (b ∷ []) (take (suc i) s)))
+
+end-after : (p s : List ℕ) (i : ℕ) → i < length s → eqb (get_or s i 0) 10 ≡ true → ((k : ℕ) → k < i → eqb (get_or s k 0) 10 ≡ false) →
+    open_after (take 65 p) s ≡ open_after [] (drop (suc i) s)
+unfolding open_after
+end-after p [] i l e h = absurd (omega arith)
+end-after p (b ∷ s) zero l e h = rw e refl
+end-after p (b ∷ s) (suc i) l e h =
+    rw (h 0 (omega arith))
+    (ap (λ (x : List ℕ). open_after x s) (more-kept p b)
+    ∙ end-after (p ++ (b ∷ [])) s i (omega arith) e (λ k m. h (suc k) (omega arith)))
+
+-- no place of an LF
+whole-none : (s : List ℕ) → None ≡ position (λ b. eqb b 10) s → Whole s
+whole-none s e = go (ltb n (length s)) refl e
+  where
+    n : ℕ
+    n = position_or_len (λ b. eqb b 10) s
+
+    go : (t : Bool) → ltb n (length s) ≡ t → None ≡ cond t (Some n) None → Whole s
+    go true q z = cc
+    go false q z =
+        let l = ltb-false n (length s) q in
+        λ k h. fails_before_first (λ b. eqb b 10) s k 0 (omega arith)
+
+-- as many bytes are kept as there is room for
+pub kept_put : (s more put rest : List ℕ) (n from count : ℕ) → length s ≡ 65 → from ≡ min n 65 → count ≡ min (length more) (65 - from) → put ≡ take count more →
+    take (from + count) (take from s ++ (put ++ rest)) ≡ take 65 (take n s ++ more)
+kept_put s more put rest n from count l f c e =
+    let a : length (take from s) ≡ from = length-take-le from s (omega arith) in
+    let m : length put ≡ count = ap length e ∙ length-take-le count more (omega arith) in
+    let room : length (take from s) + (65 - from) ≡ 65 = omega arith in
+    let here : from + count ≡ length (take from s) + count = omega arith in
+    let least : min (65 - from) (length more) ≡ count = omega arith in
+    let at : min n (length s) ≡ from = omega arith in
+    ap (λ (k : ℕ). take k (take from s ++ (put ++ rest))) here
+    ∙ take-append-add (take from s) (put ++ rest) count
+    ∙ ap (λ (x : List ℕ). take from s ++ x) (take_at put rest count m ∙ e ∙ ap (λ (k : ℕ). take k more) (sym least) ∙ take_min (65 - from) more)
+    ∙ sym (take-append-add (take from s) more (65 - from))
+    ∙ ap (λ (k : ℕ). take k (take from s ++ more)) room
+    ∙ ap (λ (x : List ℕ). take 65 (x ++ more)) (ap (λ (k : ℕ). take k s) (sym at) ∙ take_min n s)
+
+-- past the end of a piece there is nothing
+pub reads-none : (r : Reader) (piece : List ℕ) (at : ℕ) → length piece ≤ at → ReadsOn r piece at None r
+unfolding lines_in open_after
+reads-none r piece at h =
+    let d : drop at piece ≡ [] = drop_of_length-le piece {i = at} h in
+    record { lines = ap (lines_in (kept_by r)) d; after = ap (open_after (kept_by r)) d; same = refl; further = tt }
+
+module _ (r r' : Reader) (piece : List ℕ) (at : ℕ) (rest : List ℕ) (cut : rest ≡ take (length piece - at) (drop at piece)) (fits : length r.bytes ≡ 65) (same : r'.line ≡ r.line) where
+  rest_is : rest ≡ drop at piece
+  rest_is =
+      let l = length-drop at piece in
+      cut ∙ take_all (length piece - at) (drop at piece) (omega arith)
+
+  kept_all : take 65 (kept_by r) ≡ kept_by r
+  kept_all =
+      let m = length-take r.length r.bytes in
+      take_all 65 (kept_by r) (omega arith)
+
+  -- no line ends in the rest
+  pub reads-open : None ≡ position (λ b. eqb b 10) rest → kept_by r' ≡ take 65 (kept_by r ++ rest) → ReadsOn r piece at None r'
+  reads-open e k =
+      let w = whole-none rest e in
+      record {
+        lines = (λ i. lines_in (sym kept_all i) (sym rest_is i)) ∙ run-in (kept_by r) rest w;
+        after = (λ i. open_after (sym kept_all i) (sym rest_is i)) ∙ run-after (kept_by r) rest w ∙ sym k;
+        same = same;
+        further = tt;
+      }
+
+  -- a line ends at the byte i of the rest
+  pub reads-end : (i : ℕ) → Some i ≡ position (λ b. eqb b 10) rest → kept_by r' ≡ take 65 (kept_by r ++ take (i + 1) rest) → ReadsOn r piece at (Some (at + i + 1)) r'
+  reads-end i e k =
+      let f = position-Some (λ b. eqb b 10) rest i 0 (sym e) in
+      let l = ap length rest_is ∙ length-drop at piece in
+      let q : drop (suc i) rest ≡ drop (at + i + 1) piece =
+      ap (λ (x : List ℕ). drop (suc i) x) rest_is ∙ drop-drop (suc i) at piece ∙ ap (λ (n : ℕ). drop n piece) (omega arith) in
+      let z = ap (λ (n : ℕ). take 65 (kept_by r ++ take n rest)) (sym (add-one i)) ∙ sym k in
+      record {
+        lines =
+            (λ j. lines_in (sym kept_all j) (sym rest_is j))
+            ∙ end-in (kept_by r) rest i f.0 f.1 f.2
+            ∙ (λ j. z j ∷ lines_in [] (q j));
+        after =
+            (λ j. open_after (sym kept_all j) (sym rest_is j))
+            ∙ end-after (kept_by r) rest i f.0 f.1 f.2
+            ∙ ap (open_after []) q;
+        same = same;
+        further = (omega arith, omega (arith, f.0, l));
+      }
 
 -- ---- pieces
 
@@ -96,19 +191,6 @@ number_behind_lem n (l ∷ ls) h =
     number_behind_lem (number_after n) ls m ∙ omega arith
 
 -- ---- the lines of an input, byte by byte
-
--- a byte more of what is kept
-more-kept : (p : List ℕ) (b : ℕ) → more (take 65 p) b ≡ take 65 (p ++ (b ∷ []))
-more-kept p b = go (leb (length p) 65) refl
-  where
-    go : (t : Bool) → leb (length p) 65 ≡ t → more (take 65 p) b ≡ take 65 (p ++ (b ∷ []))
-    go true e = ap (λ (x : List ℕ). more x b) (take_all 65 p (leb-true (length p) 65 e))
-    go false e =
-        let h = leb-false (length p) 65 e in
-        let m = length-take-le 65 p (omega arith) in
-        take-append-le 65 (take 65 p) (b ∷ []) (omega arith)
-        ∙ take_all 65 (take 65 p) (omega arith)
-        ∙ sym (take-append-le 65 p (b ∷ []) (omega arith))
 
 -- bytes ahead of the first line
 abbrev joined : List ℕ → List (List ℕ) → List (List ℕ)

@@ -8,21 +8,14 @@ use lib.Dec.{leb}
 use lib.ListN.{length, drop, take, length-drop, drop_of_length-le}
 use lib.Seq.{drop-drop, take_all, take_at, drop_at}
 use borrow.Author.Tests.{leb-true, leb-false}
-use Rattle.track.specs.declared.Track.{Track}
 use Rattle.board.specs.declared.log.Record.{Record}
 use Rattle.board.specs.Log.{record_width, record_bytes, unpack_of, record_is, record_values}
 use Rattle.board.specs.Replay.{flat, Each}
 use Rattle.board.proofs.log.Records.{length-record}
-use Rattle.board.specs.declared.call.Told.{Told}
-use Rattle.board.specs.Call.{reply_of, gridstep}
+use Rattle.board.specs.Call.{gridstep}
 use Rattle.script.specs.declared.text.Out.{Out}
-use Rattle.script.specs.Output.{note_of, unpacked_line, record_lines, line_each}
+use Rattle.script.specs.Output.{unpacked_line, record_lines, line_each}
 use Rattle.script.specs.Text.{text_of, Wrote}
-
--- what is printed of an answer that is known
-pub note-is : (line : ℕ) (r : Out) {told x : Told} → told ≡ x → ((t : Track) → text_of r ≡ note_of line (reply_of x t)) →
-    (t : Track) → text_of r ≡ note_of line (reply_of told t)
-note-is line r e f t = f t ∙ ap (λ (y : Told). note_of line (reply_of y t)) (sym e)
 
 -- ---- records
 

@@ -1,8 +1,8 @@
 -- 01's cases A and B, from the bytes of the script to the bytes that are printed.
+use Rattle.std.specs.Prelude.{Option, Some}
 use Prim.Native.Nat.{ℕ}
 use mathlib.Core.Path.{◌≡◌, refl, ap, ◌∙◌}
 use mathlib.Core.List.{List, [], ◌∷◌, ◌++◌, map}
-use mathlib.Core.Option.{Option, some}
 use lib.ListN.{replicate}
 use Rattle.board.specs.Log.{from_le, kind_test, signed_of, spelled, unpack_of}
 use Rattle.board.specs.declared.Board.{Board}
@@ -61,7 +61,7 @@ text_b =
 
 -- ---- what is printed, from what the calls come to
 
-rows-ran : (cs : List Call) (w : World Board) → rows_do (map some cs) w ≡ ran cs w
+rows-ran : (cs : List Call) (w : World Board) → rows_do (map Some cs) w ≡ ran cs w
 unfolding row_does ran
 rows-ran [] w = refl
 rows-ran (c ∷ cs) w =
@@ -71,7 +71,7 @@ abbrev printed_of : Shown → List ℕ
 printed_of x = notes_of 1 x.answers ++ (record_lines x.held x.log ++ end_line x.clock x.held)
 
 -- A's lines are its calls
-rows-a : script_rows bytes_a ≡ map some script_a
+rows-a : script_rows bytes_a ≡ map Some script_a
 unfolding lines_of line_call fields_of number_of size_of size_from numbers_of forms same code_from
 rows-a = refl
 

@@ -1,9 +1,9 @@
 -- The laws of scripts: however a script is cut, what it does and prints is the replay of the calls that its lines are.
-use Prim.Native.Nat.{ℕ, ◌-◌, ◌≤◌}
+use Rattle.std.specs.Prelude.{Option, None}
+use Prim.Native.Nat.{ℕ, ◌≤◌}
 use mathlib.Core.Path.{◌≡◌, refl, sym, ap, subst, ◌∙◌}
 use mathlib.Core.List.{List, [], ◌∷◌, ◌++◌, map, append_assoc, append-nil}
-use mathlib.Core.Bool.{Bool, true, false, cond}
-use mathlib.Core.Option.{Option}
+use mathlib.Core.Bool.{Bool, true, false}
 use native.Mathlib.Omega.{arith}
 use lib.Dec.{leb}
 use lib.ListN.{length, drop, take, drop_of_length-le}
@@ -15,12 +15,10 @@ use Rattle.board.specs.declared.log.Record.{Record}
 use Rattle.board.specs.Cut.{All}
 use Rattle.board.specs.Replay.{World, State}
 use Rattle.board.specs.declared.call.Call.{Call}
-use Rattle.board.specs.Call.{Reply, Gives, world}
+use Rattle.board.specs.Call.{Reply, world}
 use Rattle.board.specs.Row.{calls_in, answers_to, row_does, rows_do}
 use Rattle.board.specs.Lists.{replayed}
 use Rattle.board.proofs.lists.Executing.{rows-replayed}
-use Rattle.script.specs.declared.lines.Reader.{Reader}
-use Rattle.script.specs.declared.lines.Read.{Read}
 use Rattle.script.specs.Lines.{lines_of, kept, number_after, number_behind, lines_in, open_after, last_line, kept_by, ReadsOn}
 use Rattle.script.proofs.lines.Pieces.{in-append, after-append, lines_are}
 use Rattle.script.specs.Grammar.{line_call}
@@ -32,18 +30,6 @@ use Rattle.script.specs.declared.run.Ended.{Ended}
 use Rattle.script.specs.Run.{script_rows, lines_do, notes_of, shown_at_end, printed, world_of, done_in, notes_in, Starts, Goes, Went, Ends}
 
 -- ---- a line
-
--- what a row does, for the line that it was read from
-pub line_gives : (o p : Option Call) (w : World Board) {reply : Reply} {board : Board} {log : List ℕ} → o ≡ p →
-    Gives (row_does o w) reply board log → Gives (row_does p w) reply board log
-line_gives o p w {reply} {board} {log} e g = subst (λ (r : Option Call). Gives (row_does r w) reply board log) e g
-
--- the first bytes of a buffer
-pub first_gives : (bytes : List ℕ) (n : ℕ) (w : World Board) {reply : Reply} {board : Board} {log : List ℕ} →
-    Gives (row_does (line_call (take (n - 0) (drop 0 bytes))) w) reply board log → Gives (row_does (line_call (take n bytes)) w) reply board log
-first_gives bytes n w g =
-    let z : n - 0 ≡ n = omega arith in
-    line_gives (line_call (take (n - 0) bytes)) (line_call (take n bytes)) w (ap (λ (k : ℕ). line_call (take k bytes)) z) g
 
 -- a line is what is kept of it
 kept-call : (l : List ℕ) → line_call (take 65 l) ≡ line_call l
@@ -161,71 +147,23 @@ went_on {a = a} f g = record { text = f.text ++ a; goes = goes_on f.goes g }
 pub went-all : {x y : Session} {s log log' : List ℕ} (p : List ℕ) (at : ℕ) → length p ≤ at → Went x s log y (drop at p) log' → Went x s log y [] log'
 went-all {x} {y} {s} {log} {log'} p at h w = subst (λ (t : List ℕ). Went x s log y t log') (drop_of_length-le p {i = at} h) w
 
--- ---- a turn of the loop
+-- ---- the last turn of the loop
 
-module _ (r : Reader) (b : Board) (p : List ℕ) (at : ℕ) (f : Read) (e : ReadsOn r p at f) (log : List ℕ) where
-  -- a line ended, and was done
-  pub goes-line : f.ended ≡ true → {reply : Reply} {board : Board} {log' : List ℕ} (n : Reader) → kept_by n ≡ [] →
-      n.line ≡ number_after f.reader.line → Gives (row_does (line_call (kept_by f.reader)) (world b log)) reply board log' →
-      Goes (record { reader = r; board = b }) (drop at p) log (note_of f.reader.line reply) (record { reader = n; board = board }) (drop f.next p) log'
-  goes-line h {reply} {board} {log'} n k l g =
-      let s = drop f.next p in
-      let rest : lines_in (kept_by r) (drop at p) ≡ kept_by f.reader ∷ lines_in [] s =
-      e.lines ∙ ap (λ (t : Bool). cond t (kept_by f.reader ∷ lines_in [] s) []) h in
-      let m : n.line ≡ number_after r.line = l ∙ ap number_after e.same in
-      record {
-        text_is =
-            ap (λ (ls : List (List ℕ)). notes_of r.line (lines_do ls (world b log)).answers) rest
-            ∙ sym
-            (λ i.
-            note_of (e.same i) (g.answer_is i)
-            ++ notes_of (m i) (lines_do (lines_in (k i) s) (world (g.board_is i) (g.log_is i))).answers);
-        left_is =
-            ap (λ (ls : List (List ℕ)). (lines_do ls (world b log)).last) rest
-            ∙ sym (λ i. (lines_do (lines_in (k i) s) (world (g.board_is i) (g.log_is i))).last);
-        open_is =
-            e.after
-            ∙ ap (λ (t : Bool). cond t (open_after [] s) (kept_by f.reader)) h
-            ∙ ap (λ (o : List ℕ). open_after o s) (sym k);
-        line_is = ap (number_behind r.line) rest ∙ sym (λ i. number_behind (m i) (lines_in (k i) s));
-      }
-
+module _ (x y : Session) (p : List ℕ) (at : ℕ) (log : List ℕ) (same : y.board ≡ x.board) where
   -- the piece ended first
-  pub goes-open : f.ended ≡ false →
-      Goes (record { reader = r; board = b }) (drop at p) log [] (record { reader = f.reader; board = b }) (drop f.next p) log
+  pub goes-open : ReadsOn x.reader p at None y.reader → Goes x (drop at p) log [] y (drop (length p) p) log
   unfolding lines_in open_after
-  goes-open h =
-      let d : drop f.next p ≡ [] = drop_of_length-le p {i = f.next} (e.all h) in
-      let rest : lines_in (kept_by r) (drop at p) ≡ lines_in (kept_by f.reader) (drop f.next p) =
-      e.lines
-      ∙ ap (λ (t : Bool). cond t (kept_by f.reader ∷ lines_in [] (drop f.next p)) []) h
-      ∙ ap (lines_in (kept_by f.reader)) (sym d) in
-      let same = sym e.same in
+  goes-open e =
+      let d : drop (length p) p ≡ [] = drop_of_length-le p {i = length p} (omega arith) in
+      let rest : lines_in (kept_by x.reader) (drop at p) ≡ lines_in (kept_by y.reader) (drop (length p) p) = e.lines ∙ ap (lines_in (kept_by y.reader)) (sym d) in
+      let line = sym e.same in
+      let board = sym same in
       record {
-        text_is = λ i. notes_of (same i) (lines_do (rest i) (world b log)).answers;
-        left_is = ap (λ (ls : List (List ℕ)). (lines_do ls (world b log)).last) rest;
-        open_is =
-            e.after
-            ∙ ap (λ (t : Bool). cond t (open_after [] (drop f.next p)) (kept_by f.reader)) h
-            ∙ ap (open_after (kept_by f.reader)) (sym d);
-        line_is = λ i. number_behind (same i) (rest i);
+        text_is = λ i. notes_of (line i) (lines_do (rest i) (world (board i) log)).answers;
+        left_is = λ i. (lines_do (rest i) (world (board i) log)).last;
+        open_is = e.after ∙ ap (open_after (kept_by y.reader)) (sym d);
+        line_is = λ i. number_behind (line i) (rest i);
       }
-
--- ---- the end of the input
-
-pub ends-none : (n : ℕ) (k : List ℕ) (w : World Board) → length k ≡ 0 →
-    (w ≡ (lines_do (last_line k) w).last) × ([] ≡ notes_of n (lines_do (last_line k) w).answers)
-ends-none n [] w h = (refl, refl)
-ends-none n (b ∷ k) w h = absurd (omega arith)
-
-pub ends-line : (n : ℕ) (k : List ℕ) (w : World Board) {reply : Reply} {board : Board} {log : List ℕ} → (length k ≡ 0 → ⊥) →
-    Gives (row_does (line_call k) w) reply board log →
-    (world board log ≡ (lines_do (last_line k) w).last) × (note_of n reply ≡ notes_of n (lines_do (last_line k) w).answers)
-ends-line n [] w h g = absurd (h refl)
-ends-line n (b ∷ k) w h g = (
-  (λ i. world (g.board_is i) (g.log_is i)),
-  ap (note_of n) g.answer_is ∙ sym (append-nil (note_of n (row_does (line_call (b ∷ k)) w).answer)),
-)
 
 -- ---- a whole script
 

@@ -9,8 +9,7 @@ use lib.Dec.{ltb}
 use lib.IntN.{ℤ, pos, negsuc, nat_abs}
 use lib.ListN.{get_or}
 use borrow.Author.Tests.{ltb-true, ltb-false, lt-ltb, le-ltb, le-leb, ne_eqb}
-use Rattle.script.specs.declared.number.Size.TheVariants.{Of}
-use Rattle.script.specs.declared.number.Number.TheVariants.{Value}
+use Rattle.std.proofs.Common.{Some}
 use Rattle.script.specs.Number.{size_from, size_of, number_of, positive, negative}
 use Rattle.script.specs.Text.{digits_most, digits_then, decimal, signed}
 
@@ -80,7 +79,7 @@ first_read (b ∷ s) h =
     let z : b ≡ 48 → ⊥ = λ e. omega arith in
     rw (ne_eqb b 48 z) refl
 
-pub size-read : (n : ℕ) → n ≤ 4294967295 → size_of (decimal n) ≡ Of n
+pub size-read : (n : ℕ) → n ≤ 4294967295 → size_of (decimal n) ≡ Some n
 unfolding size_of size_from digits_then
 size-read zero h = refl
 size-read (suc n) h =
@@ -95,16 +94,16 @@ no_sign (b ∷ s) h =
     let z : b ≡ 45 → ⊥ = λ e. omega arith in
     rw (ne_eqb b 45 z) refl
 
-zero-read : number_of (decimal 0) ≡ Value (pos 0)
+zero-read : number_of (decimal 0) ≡ Some (pos 0)
 unfolding number_of size_of digits_then
 zero-read = refl
 
-below-read : (s : List ℕ) (n : ℕ) → size_of s ≡ Of (suc n) → number_of (45 ∷ s) ≡ Value (negsuc n)
+below-read : (s : List ℕ) (n : ℕ) → size_of s ≡ Some (suc n) → number_of (45 ∷ s) ≡ Some (negsuc n)
 unfolding number_of
 below-read s n e = ap negative e ∙ rw (ne_eqb (suc n) 0 (λ z. omega arith)) refl
 
 -- a number of the grammar, and a negative one with its sign
-pub number_read : (z : ℤ) → nat_abs z ≤ 4294967295 → number_of (signed z) ≡ Value z
+pub number_read : (z : ℤ) → nat_abs z ≤ 4294967295 → number_of (signed z) ≡ Some z
 number_read (pos zero) h = zero-read
 number_read (pos (suc n)) h =
     let f = digits-first (suc n) [] (omega arith) (omega arith) in

@@ -1,20 +1,19 @@
 -- The laws of what is written: digits from the last to the first, and bytes one behind the other.
-use Prim.Native.Nat.{ℕ, zero, suc, ◌+◌, ◌-◌, ◌/◌, ◌%◌, ◌^◌, ◌≤◌, ◌<◌}
+use Prim.Native.Nat.{ℕ, zero, suc, ◌+◌, ◌-◌, ◌/◌, ◌%◌, ◌^◌, ◌≤◌, ◌<◌, min}
 use mathlib.Core.Path.{◌≡◌, refl, sym, ap, ◌∙◌}
-use mathlib.Core.List.{List, [], ◌∷◌, ◌++◌, append_assoc, append-nil}
-use mathlib.Core.Logic.{◌⊎◌, inl, inr}
+use mathlib.Core.List.{List, [], ◌∷◌, ◌++◌, append_assoc}
 use native.Mathlib.Omega.{arith}
-use native.Mathlib.Numerals.{add-one}
 use native.Mathlib.Nat.{pow-suc}
-use lib.ListN.{length, get_or, drop, take, set, length-set, drop_of_length-le}
-use lib.Seq.{drop-cons, drop-set-lt, get_or-set_same, append_snoc, take-suc, take-suc-set, take_all}
-use borrow.Author.Tests.{lt-ltb, le-ltb}
+use lib.ListN.{length, drop, take, set, length-set}
+use lib.Seq.{drop-cons, drop-set-lt, get_or-set_same, take_all}
+use mathlib.Core.Bool.{Bool, true, false}
+use lib.Dec.{leb}
+use borrow.Author.Tests.{lt-ltb, le-ltb, leb-true, leb-false}
 use Rattle.track.specs.declared.Coordinate.{Coordinate}
 use Rattle.track.specs.Number.{value_of}
 use Rattle.board.specs.Log.{position_of}
-use Rattle.script.specs.declared.text.Digits.{Digits}
 use Rattle.script.specs.declared.text.Out.{Out}
-use Rattle.script.specs.Text.{digits_most, digits_then, decimal, number_then, signed, text_of, IsDecimal, Adds}
+use Rattle.script.specs.Text.{digits_then, decimal, number_then, signed, text_of, Adds}
 
 -- ---- digits
 
@@ -58,23 +57,6 @@ module _ (i v : ℕ) (a : List ℕ) (p : 0 < i) (l : i ≤ length a) where
 
 -- ---- bytes
 
--- a byte put behind others
-pub put_next : (a : List ℕ) (n b : ℕ) → n < length a → take (n + 1) (set a n b) ≡ take n a ++ (b ∷ [])
-put_next a n b h = rw add-one (take-suc-set a n b h)
-
--- one byte more of what is to be written
-pub push-next : (a o d w : List ℕ) (i : ℕ) → i < length d → a ++ drop i d ≡ w → o ≡ a ++ (get_or d i 0 ∷ []) → o ++ drop (i + 1) d ≡ w
-push-next a o d w i h e p =
-    ap (λ (x : List ℕ). x ++ drop (i + 1) d) p
-    ∙ append_snoc a (get_or d i 0) (drop (i + 1) d)
-    ∙ ap (λ (j : ℕ). a ++ get_or d i 0 ∷ drop j d) (add-one i)
-    ∙ ap (λ (x : List ℕ). a ++ x) (sym (drop-cons d i 0 h))
-    ∙ e
-
--- none is left
-pub push-end : (a d : List ℕ) (i : ℕ) → length d ≤ i → a ≡ a ++ drop i d
-push-end a d i h = sym (ap (λ (x : List ℕ). a ++ x) (drop_of_length-le d {i = i} h) ∙ append-nil a)
-
 -- one thing written, and another behind it
 pub adds-both : (o p r : Out) (a b : List ℕ) (m n : ℕ) → Adds o a m p → Adds p b n r → Adds o (a ++ b) (m + n) r
 adds-both o p r a b m n f g =
@@ -83,20 +65,7 @@ adds-both o p r a b m n f g =
       few = omega (arith, f.few, g.few);
     }
 
--- behind a text that is known
-pub text-adds : (o r : Out) {a : List ℕ} (b : List ℕ) (n : ℕ) → text_of o ≡ a → Adds o b n r → text_of r ≡ a ++ b
-text-adds o r b n e f = f.adds ∙ ap (λ (x : List ℕ). x ++ b) e
-
 -- ---- numbers
-
--- the digits of a number
-pub adds-digits : (o r : Out) (n : ℕ) (d : Digits) → length d.bytes ≡ digits_most → IsDecimal n d →
-    Adds o (drop d.from d.bytes) (length d.bytes - d.from) r → Adds o (decimal n) digits_most r
-adds-digits o r n d l e f =
-    record {
-      adds = f.adds ∙ ap (λ (x : List ℕ). text_of o ++ x) e.digits;
-      few = omega (arith, l, f.few);
-    }
 
 -- the position of a coordinate
 position-low : (c : Coordinate) → c.0 < 1000000 → 45 ∷ decimal (1000000 - c.0) ≡ signed (position_of c)
@@ -116,50 +85,40 @@ position-wraps c h l =
     sym (simp (le-ltb c.0 2148483648 h) (ap (λ (n : ℕ). 45 ∷ decimal n) e))
 
 -- with a comma behind it
-module _ (o r : Out) (c : Coordinate) where
+module _ (o r : Out) (c : Coordinate) (k : ℕ) (is : k ≡ c.0) where
   minus-adds : (p : Out) (n : ℕ) → 45 ∷ decimal n ≡ signed (position_of c) → Adds o (45 ∷ []) 1 p → Adds p (number_then n 44) 21 r →
       Adds o (signed (position_of c) ++ (44 ∷ [])) 22 r
   minus-adds p n e f g =
       let b = adds-both o p r (45 ∷ []) (number_then n 44) 1 21 f g in
       record { adds = b.adds ∙ ap (λ (x : List ℕ). text_of o ++ (x ++ (44 ∷ []))) e; few = b.few }
 
-  pub adds-low : (p : Out) → c.0 < 1000000 → Adds o (45 ∷ []) 1 p → Adds p (number_then (1000000 - c.0) 44) 21 r →
+  pub adds-low : (p : Out) → k < 1000000 → Adds o (45 ∷ []) 1 p → Adds p (number_then (1000000 - k) 44) 21 r →
       Adds o (signed (position_of c) ++ (44 ∷ [])) 22 r
-  adds-low p h f g = minus-adds p (1000000 - c.0) (position-low c h) f g
+  adds-low p h f g = minus-adds p (1000000 - k) (ap (λ (j : ℕ). 45 ∷ decimal (1000000 - j)) is ∙ position-low c (omega arith)) f g
 
-  pub adds-high : 1000000 ≤ c.0 → c.0 < 2148483648 → Adds o (number_then (c.0 - 1000000) 44) 21 r → Adds o (signed (position_of c) ++ (44 ∷ [])) 22 r
+  pub adds-high : 1000000 ≤ k → k < 2148483648 → Adds o (number_then (k - 1000000) 44) 21 r → Adds o (signed (position_of c) ++ (44 ∷ [])) 22 r
   adds-high h l f =
       record {
-        adds = f.adds ∙ ap (λ (x : List ℕ). text_of o ++ (x ++ (44 ∷ []))) (position-high c h l);
+        adds = f.adds ∙ ap (λ (x : List ℕ). text_of o ++ (x ++ (44 ∷ []))) (ap (λ (j : ℕ). decimal (j - 1000000)) is ∙ position-high c (omega arith) (omega arith));
         few = omega (arith, f.few);
       }
 
-  pub adds-wraps : (p : Out) → 2148483648 ≤ c.0 → c.0 < 4294967296 → Adds o (45 ∷ []) 1 p → Adds p (number_then (4295967296 - c.0) 44) 21 r →
+  pub adds-wraps : (p : Out) → 2148483648 ≤ k → k < 4294967296 → Adds o (45 ∷ []) 1 p → Adds p (number_then (4295967296 - k) 44) 21 r →
       Adds o (signed (position_of c) ++ (44 ∷ [])) 22 r
-  adds-wraps p h l f g = minus-adds p (4295967296 - c.0) (position-wraps c h l) f g
+  adds-wraps p h l f g =
+      minus-adds p (4295967296 - k) (ap (λ (j : ℕ). 45 ∷ decimal (4295967296 - j)) is ∙ position-wraps c (omega arith) (omega arith)) f g
 
 -- ---- a line into a buffer
 
--- one byte more of it
-pub wrote-next : (out o₀ bytes : List ℕ) (used i : ℕ) → used + i < length out → i < length bytes → take (used + i) out ≡ take used o₀ ++ take i bytes →
-    take (used + (i + 1)) (set out (used + i) (get_or bytes i 0)) ≡ take used o₀ ++ take (i + 1) bytes
-wrote-next out o₀ bytes used i h l e =
-    let q : used + (i + 1) ≡ suc (used + i) = omega arith in
-    ap (λ (k : ℕ). take k (set out (used + i) (get_or bytes i 0))) q
-    ∙ take-suc-set out (used + i) (get_or bytes i 0) h
-    ∙ ap (λ (x : List ℕ). x ++ (get_or bytes i 0 ∷ [])) e
-    ∙ append_assoc (take used o₀) (take i bytes) (get_or bytes i 0 ∷ [])
-    ∙ ap (λ (x : List ℕ). take used o₀ ++ x) (sym (take-suc bytes i 0 l) ∙ ap (λ (k : ℕ). take k bytes) (sym (add-one i)))
-
--- none of it yet
-pub wrote_none : (out bytes : List ℕ) (used : ℕ) → take (used + 0) out ≡ take used out ++ take 0 bytes
-wrote_none out bytes used =
-    let q : used + 0 ≡ used = omega arith in
-    ap (λ (k : ℕ). take k out) q ∙ sym (append-nil (take used out))
-
 -- all of it: as many bytes as it has, or as there are
-pub wrote-all : (bytes : List ℕ) (n i : ℕ) → i ≤ n → n ≤ i ⊎ length bytes ≤ i → take i bytes ≡ take n bytes
-wrote-all bytes n i h (inl l) =
-    let e : i ≡ n = omega arith in
-    ap (λ (k : ℕ). take k bytes) e
-wrote-all bytes n i h (inr l) = take_all i bytes l ∙ sym (take_all n bytes (omega arith))
+pub all-of : (bytes : List ℕ) (n i : ℕ) → length bytes ≡ 160 → i ≡ min n 160 → take i bytes ≡ take n bytes
+all-of bytes n i l e = go (leb n 160) refl
+  where
+    go : (t : Bool) → leb n 160 ≡ t → take i bytes ≡ take n bytes
+    go true q =
+        let h = leb-true n 160 q in
+        let z : i ≡ n = omega arith in
+        ap (λ (k : ℕ). take k bytes) z
+    go false q =
+        let h = leb-false n 160 q in
+        take_all i bytes (omega arith) ∙ sym (take_all n bytes (omega arith))

@@ -1,89 +1,80 @@
-use Rattle.board.proofs.call.Leaving.{add-track-leaves}
-use Prim.Native.Nat.{ℕ, ◌<◌}
-use Rattle.board.proofs.setup.Guards.{track-added}
-use Rattle.board.specs.Setup.{add_track}
-use Rattle.track.proofs.Numbers.{told, natural-in, natural-out, natural-take, place_out, place-take}
-use Rattle.track.proofs.Tests.{cond_yes, cond_no}
-use Rattle.track.specs.Number.{natural_of, coordinate_of}
-use Rattle.track.specs.declared.number.Natural.TheVariants.{In}
-use Rattle.track.specs.declared.number.Natural.{Natural}
-use borrow.Author.Tests.{lt-ltb, le-ltb}
+use Rattle.std.specs.Prelude.{Some}
+use Prim.Native.Nat.{ℕ, ◌+◌, ◌^◌}
+use lib.Dec.{ltb}
 use lib.IntN.{ℤ}
-use mathlib.Core.Path.{◌≡◌, ◌∙◌, sym}
+use lib.ListN.{set}
+use borrow.Author.Tests.{lt-ltb, le-ltb}
+use mathlib.Core.Bool.{true, false, cond}
+use mathlib.Core.Path.{◌≡◌, ◌∙◌, refl, sym}
 use native.Mathlib.Omega.{arith}
-use Rattle.board.specs.Points.{track_count}
+use Rattle.track.specs.Number.{natural_of, coordinate_of, on_some}
+use Rattle.track.specs.Rule.{new_track}
+use Rattle.track.specs.declared.Coordinate.{Coordinate}
+use Rattle.track.proofs.Numbers.{natural-in, some-out, some-take}
+use Rattle.track.proofs.Tests.{cond_yes, cond_no}
+use Rattle.board.proofs.call.Leaving.{add-track-leaves}
+use Rattle.board.proofs.setup.Guards.{track-added}
+use Rattle.board.proofs.setup.Results.{ok-true, some-told, none-told}
+use Rattle.board.specs.Board.{is_present, unbroken_test}
+use Rattle.board.specs.Setup.{Outcome, outcome, refused, accepted, board_with, add_track}
+use Rattle.board.specs.declared.Board.{Board}
 use Rattle.board.proofs.Board.add_track.Goals as goal
 
-abbrev at : ℤ → Natural
-at z = natural_of z 0 15
+pub bounds-self-i : goal.bounds-self-i
+bounds-self-i c = grind (arith, natural-in)
 
--- a number that a track can have
-small : (number : ℤ) {i : ℕ} → at number ≡ In i → i < track_count
-small number e = omega (arith, (natural-in number 0 15 e).2)
+pub with_track-requires-clause-track_lt_track_count : goal.with_track-requires-clause-track_lt_track_count
+with_track-requires-clause-track_lt_track_count c = grind (arith, natural-in)
 
-pub bounds-board-at : goal.bounds-board-at
-bounds-board-at c = small _ (told at c.ranges.number c.in_range.ensures c.in-In.is)
-
-pub with_track-requires : goal.with_track-requires
-with_track-requires c = record {
-  track_value = sym c.is_present.ensures ∙ c.if-is_present.false;
-  track_lt_track_count = small _ (told at c.ranges.number c.in_range.ensures c.in-In.is);
-}
-
--- ---- the ways out: each guard that lets the call through, and then the one that does not
-
-pub returns-then-not-unbroken : goal.returns-then-not-unbroken
+pub returns-in_err-checked : goal.returns-in_err-checked
 unfolding add_track
-returns-then-not-unbroken c =
-    add-track-leaves _ _ _ _ (cond_no _ _ (sym c.unbroken.ensures ∙ c.if-not-unbroken.true) c.refused.ensures)
+returns-in_err-checked c = add-track-leaves _ _ _ _ {r = outcome c.args.self c.from_residual.result} (grind arith)
 
-pub returns-in_default : goal.returns-in_default
+pub returns-in_err-i : goal.returns-in_err-i
 unfolding add_track
-returns-in_default c =
-    add-track-leaves _ _ _ _ (cond_yes _ _ (sym c.unbroken.ensures ∙ c.if-not-unbroken.false)
-    (natural-out _ _ _ (told at c.ranges.number c.in_range.ensures c.in_default.is) c.refused-in_default.ensures))
+returns-in_err-i c = add-track-leaves _ _ _ _ {r = outcome c.args.self c.from_residual-in_err-i.result} (grind arith)
 
 pub returns-then-is_present : goal.returns-then-is_present
 unfolding add_track
-returns-then-is_present c =
-    add-track-leaves _ _ _ _ (cond_yes _ _ (sym c.unbroken.ensures ∙ c.if-not-unbroken.false)
-    (natural-take _ _ _ (told at c.ranges.number c.in_range.ensures c.in-In.is)
-    (cond_yes _ _ (sym c.is_present.ensures ∙ c.if-is_present.true) c.refused-then-is_present.ensures)))
+returns-then-is_present c = add-track-leaves _ _ _ _ {r = refused 6 c.args.self} (grind arith)
 
-pub returns-in_default-of : goal.returns-in_default-of
+pub returns-in_err-low : goal.returns-in_err-low
 unfolding add_track
-returns-in_default-of c =
-    add-track-leaves _ _ _ _ (cond_yes _ _ (sym c.unbroken.ensures ∙ c.if-not-unbroken.false)
-    (natural-take _ _ _ (told at c.ranges.number c.in_range.ensures c.in-In.is)
-    (cond_no _ _ (sym c.is_present.ensures ∙ c.if-is_present.false)
-    (place_out _ _ _ (told coordinate_of c.ranges.min c.of.ensures c.in_default-of.is) c.refused-in_default-of.ensures))))
+returns-in_err-low c = add-track-leaves _ _ _ _ {r = outcome c.args.self c.from_residual-in_err-low.result} (grind arith)
 
-pub returns-in_default-of-2 : goal.returns-in_default-of-2
+-- what the call comes to where its number is free and its lower bound is a position
+past : (b : Board) (number min max : ℤ) {i : ℕ} {low : Coordinate} → unbroken_test b ≡ true → natural_of number 0 15 ≡ Some i →
+    is_present b.present i ≡ false → coordinate_of min ≡ Some low → {r : Outcome} →
+    r ≡ on_some (coordinate_of max)
+    (λ high. cond (ltb low.0 high.0)
+    (accepted (board_with b (set b.tracks i (new_track low high)) (b.present + 2 ^ i) b.points b.held)) (refused 3 b)) (refused 3 b) →
+    r ≡ add_track b number min max
 unfolding add_track
-returns-in_default-of-2 c =
-    add-track-leaves _ _ _ _ (cond_yes _ _ (sym c.unbroken.ensures ∙ c.if-not-unbroken.false)
-    (natural-take _ _ _ (told at c.ranges.number c.in_range.ensures c.in-In.is)
-    (cond_no _ _ (sym c.is_present.ensures ∙ c.if-is_present.false)
-    (place-take _ _ _ (told coordinate_of c.ranges.min c.of.ensures c.in-At.is)
-    (place_out _ _ _ (told coordinate_of c.ranges.max c.of-2.ensures c.in_default-of-2.is) c.refused-in_default-of-2.ensures)))))
+past b number min max u n p l q = q ∙ simp (u, n, p, l)
+
+pub returns-in_err-high : goal.returns-in_err-high
+returns-in_err-high c =
+    let i : natural_of c.args.number 0 15 ≡ Some c.in_ok-i.i = grind arith in
+    let q : outcome c.args.self c.from_residual-in_err-high.result ≡ refused 3 c.args.self = grind arith in
+    add-track-leaves _ _ _ _ {r = outcome c.args.self c.from_residual-in_err-high.result}
+    (past _ _ _ _ (ok-true _ _ (sym c.in_ok-checked.ensures)) i (sym c.is_present.ensures ∙ c.if-is_present.false)
+    (some-told coordinate_of _ c.ranges.min c.in_ok-low.ensures)
+    (some-out _ _ _ (none-told coordinate_of _ c.ranges.max c.in_err-high.ensures) q))
 
 pub returns-then-high-low : goal.returns-then-high-low
-unfolding add_track
 returns-then-high-low c =
-    add-track-leaves _ _ _ _ (cond_yes _ _ (sym c.unbroken.ensures ∙ c.if-not-unbroken.false)
-    (natural-take _ _ _ (told at c.ranges.number c.in_range.ensures c.in-In.is)
-    (cond_no _ _ (sym c.is_present.ensures ∙ c.if-is_present.false)
-    (place-take _ _ _ (told coordinate_of c.ranges.min c.of.ensures c.in-At.is)
-    (place-take _ _ _ (told coordinate_of c.ranges.max c.of-2.ensures c.in-At-of.is)
-    (cond_no _ _ (le-ltb _ _ c.if-high-low.true) c.refused-then-high-low.ensures))))))
+    let i : natural_of c.args.number 0 15 ≡ Some c.in_ok-i.i = grind arith in
+    add-track-leaves _ _ _ _ {r = refused 3 c.args.self}
+    (past _ _ _ _ (ok-true _ _ (sym c.in_ok-checked.ensures)) i (sym c.is_present.ensures ∙ c.if-is_present.false)
+    (some-told coordinate_of _ c.ranges.min c.in_ok-low.ensures)
+    (some-take _ _ _ (some-told coordinate_of _ c.ranges.max c.in_ok-high.ensures) (cond_no _ _ (le-ltb _ _ c.if-high-low.true) refl)))
 
 pub returns : goal.returns
-unfolding add_track
 returns c =
-    add-track-leaves _ _ _ _ (cond_yes _ _ (sym c.unbroken.ensures ∙ c.if-not-unbroken.false)
-    (natural-take _ _ _ (told at c.ranges.number c.in_range.ensures c.in-In.is)
-    (cond_no _ _ (sym c.is_present.ensures ∙ c.if-is_present.false)
-    (place-take _ _ _ (told coordinate_of c.ranges.min c.of.ensures c.in-At.is)
-    (place-take _ _ _ (told coordinate_of c.ranges.max c.of-2.ensures c.in-At-of.is)
-    (cond_yes _ _ (lt-ltb _ _ c.if-high-low.false)
-    (c.accepted.ensures ∙ track-added c.args.self _ c.new-fresh.ensures c.with_track.ensures)))))))
+    let b = c.args.self in
+    let i : natural_of c.args.number 0 15 ≡ Some c.in_ok-i.i = grind arith in
+    add-track-leaves _ _ _ _ {r = accepted (board_with b (set b.tracks c.in_ok-i.i c.new.result) c.with_track.result b.points b.held)}
+    (past _ _ _ _ (ok-true _ _ (sym c.in_ok-checked.ensures)) i (sym c.is_present.ensures ∙ c.if-is_present.false)
+    (some-told coordinate_of _ c.ranges.min c.in_ok-low.ensures)
+    (some-take _ _ _ (some-told coordinate_of _ c.ranges.max c.in_ok-high.ensures)
+    (cond_yes _ _ (lt-ltb _ _ c.if-high-low.false) (track-added b _ c.new.ensures c.with_track.ensures))))

@@ -1,75 +1,53 @@
+use Rattle.track.proofs.Numbers.{value-coordinate}
+use native.Mathlib.Omega.{arith}
+use mathlib.Core.Path.{◌≡◌, sym}
+use Rattle.std.specs.Prelude.{Some}
+use Rattle.track.specs.Number.{coordinate_of}
 use Rattle.board.proofs.call.Leaving.{drop-point-leaves}
+use Rattle.board.proofs.quiet.Leaps.{unbroken-points}
 use Rattle.board.proofs.rules.Broken.{unbroken-of}
 use Rattle.board.proofs.rules.Present.{found-below}
-use Rattle.board.proofs.setup.Guards.{points-refused, points-put}
+use Rattle.board.proofs.setup.Results.{ok-true, some-told}
 use Rattle.board.specs.Board.{found_in}
-use Rattle.board.specs.Setup.{drop_point}
-use Rattle.track.proofs.Numbers.{told, natural-out, natural-take, place_out, place-take, value-coordinate}
-use Rattle.track.proofs.Tests.{cond_yes, cond_no}
-use Rattle.track.specs.Number.{coordinate_of}
-use borrow.Author.Tests.{not-true, not-false}
-use mathlib.Core.Path.{◌∙◌, sym}
-use native.Mathlib.Omega.{arith}
+use Rattle.board.specs.Setup.{outcome, refused, accepted, board_with, drop_point}
 use Rattle.board.proofs.Board.drop_point.Goals as goal
 
-pub bounds-tracks-at : goal.bounds-tracks-at
-bounds-tracks-at c = found-below _ _ (told (found_in _) c.ranges.track c.found.ensures c.in-In.is)
+pub bounds-self-i : goal.bounds-self-i
+bounds-self-i c = grind (arith, found-below)
 
 pub overflow_mul-i : goal.overflow_mul-i
-overflow_mul-i c = omega (arith, found-below _ _ (told (found_in _) c.ranges.track c.found.ensures c.in-In.is))
+overflow_mul-i c = grind (arith, found-below)
 
 pub overflow_add-i : goal.overflow_add-i
 overflow_add-i c =
-    let l = found-below _ _ (told (found_in _) c.ranges.track c.found.ensures c.in-In.is) in
-    omega (arith, (value-coordinate _ (told coordinate_of c.ranges.position c.of.ensures c.in-At.is)).1)
+    let l : coordinate_of c.args.position ≡ Some c.in_ok-l.l = grind arith in
+    omega (arith, found-below _ _ (some-told (found_in _) _ c.ranges.track c.in_ok-i.ensures), (value-coordinate _ l).1)
 
 pub dropped-dropped-requires : goal.dropped-dropped-requires
-dropped-dropped-requires c =
-    let u = unbroken-of c.args.self (sym c.unbroken.ensures ∙ c.if-not-unbroken.false) in
-    record { count_le_point_most = u.count; self_value = u.order }
+dropped-dropped-requires c = record { rule = unbroken-points _ (unbroken-of c.args.self (ok-true _ _ (sym c.in_ok-checked.ensures))) }
 
--- ---- the ways out: each guard that lets the call through, and then the one that does not
-
-pub returns-then-not-unbroken : goal.returns-then-not-unbroken
+pub returns-in_err-checked : goal.returns-in_err-checked
 unfolding drop_point
-returns-then-not-unbroken c =
-    drop-point-leaves _ _ _ (cond_no _ _ (sym c.unbroken.ensures ∙ c.if-not-unbroken.true) c.refused.ensures)
+returns-in_err-checked c = drop-point-leaves _ _ _ {r = outcome c.args.self c.from_residual.result} (grind arith)
 
-pub returns-in_default : goal.returns-in_default
+pub returns-in_err-i : goal.returns-in_err-i
 unfolding drop_point
-returns-in_default c =
-    drop-point-leaves _ _ _ (cond_yes _ _ (sym c.unbroken.ensures ∙ c.if-not-unbroken.false)
-    (natural-out _ _ _ (told (found_in _) c.ranges.track c.found.ensures c.in_default.is) c.refused-in_default.ensures))
+returns-in_err-i c = drop-point-leaves _ _ _ {r = outcome c.args.self c.from_residual-in_err-i.result} (grind arith)
 
 pub returns-then-not-settled : goal.returns-then-not-settled
 unfolding drop_point
-returns-then-not-settled c =
-    drop-point-leaves _ _ _ (cond_yes _ _ (sym c.unbroken.ensures ∙ c.if-not-unbroken.false)
-    (natural-take _ _ _ (told (found_in _) c.ranges.track c.found.ensures c.in-In.is)
-    (cond_no _ _ (sym c.settled.ensures ∙ c.if-not-settled.true) c.refused-then-not-settled.ensures)))
+returns-then-not-settled c = drop-point-leaves _ _ _ {r = refused 2 c.args.self} (grind arith)
 
-pub returns-in_default-of : goal.returns-in_default-of
+pub returns-in_err-l : goal.returns-in_err-l
 unfolding drop_point
-returns-in_default-of c =
-    drop-point-leaves _ _ _ (cond_yes _ _ (sym c.unbroken.ensures ∙ c.if-not-unbroken.false)
-    (natural-take _ _ _ (told (found_in _) c.ranges.track c.found.ensures c.in-In.is)
-    (cond_yes _ _ (sym c.settled.ensures ∙ c.if-not-settled.false)
-    (place_out _ _ _ (told coordinate_of c.ranges.position c.of.ensures c.in_default-of.is) c.refused-in_default-of.ensures))))
+returns-in_err-l c = drop-point-leaves _ _ _ {r = outcome c.args.self c.from_residual-in_err-l.result} (grind arith)
 
-pub returns-then-not-dropped : goal.returns-then-not-dropped
+pub returns-in_err-self : goal.returns-in_err-self
 unfolding drop_point
-returns-then-not-dropped c =
-    drop-point-leaves _ _ _ (cond_yes _ _ (sym c.unbroken.ensures ∙ c.if-not-unbroken.false)
-    (natural-take _ _ _ (told (found_in _) c.ranges.track c.found.ensures c.in-In.is)
-    (cond_yes _ _ (sym c.settled.ensures ∙ c.if-not-settled.false)
-    (place-take _ _ _ (told coordinate_of c.ranges.position c.of.ensures c.in-At.is)
-    (points-refused c.args.self 4 c.dropped-dropped.ensures (not-true _ c.if-not-dropped.true) c.refused-then-not-dropped.ensures)))))
+returns-in_err-self c = drop-point-leaves _ _ _ {r = outcome c.args.self c.from_residual-in_err-self.result} (grind arith)
 
 pub returns : goal.returns
 unfolding drop_point
 returns c =
-    drop-point-leaves _ _ _ (cond_yes _ _ (sym c.unbroken.ensures ∙ c.if-not-unbroken.false)
-    (natural-take _ _ _ (told (found_in _) c.ranges.track c.found.ensures c.in-In.is)
-    (cond_yes _ _ (sym c.settled.ensures ∙ c.if-not-settled.false)
-    (place-take _ _ _ (told coordinate_of c.ranges.position c.of.ensures c.in-At.is)
-    (points-put c.args.self 4 c.dropped-dropped.ensures (not-false _ c.if-not-dropped.false) c.accepted.ensures)))))
+    let b = c.args.self in
+    drop-point-leaves _ _ _ {r = accepted (board_with b b.tracks b.present c.in_ok-self.field-0 b.held)} (grind arith)

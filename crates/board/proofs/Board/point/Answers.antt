@@ -1,68 +1,60 @@
+use Rattle.std.specs.Prelude.{Ok, Err, Some}
+use Rattle.track.specs.declared.refusal.Refusal.TheVariants as refusal
+use Rattle.board.proofs.setup.Guards.{info-small, found-small, point-shown}
+use Rattle.track.proofs.Numbers.{value-coordinate, some-take}
+use native.Mathlib.Omega.{arith}
+use mathlib.Core.Path.{◌≡◌, sym}
+use Rattle.track.specs.Number.{coordinate_of}
+use Rattle.track.proofs.Tests.{cond_yes}
 use Rattle.board.proofs.call.Leaving.{point-leaves}
+use Rattle.board.proofs.quiet.Leaps.{unbroken-points}
 use Rattle.board.proofs.rules.Broken.{unbroken-of}
 use Rattle.board.proofs.rules.Present.{found-below}
-use Rattle.board.proofs.setup.Guards.{info-small, found-small, point-shown, point-absent}
+use Rattle.board.proofs.setup.Results.{ok-true, some-told}
 use Rattle.board.specs.Board.{found_in}
 use Rattle.board.specs.Query.{point_in}
-use Rattle.track.proofs.Numbers.{told, natural-out, natural-take, place_out, place-take, value-coordinate}
-use Rattle.track.proofs.Tests.{cond_yes, cond_no}
-use Rattle.track.specs.Number.{coordinate_of}
-use mathlib.Core.Path.{◌∙◌, sym, refl}
-use native.Mathlib.Omega.{arith}
 use Rattle.board.proofs.Board.point.Goals as goal
 
 pub overflow_mul-wanted : goal.overflow_mul-wanted
-overflow_mul-wanted c = omega (arith, found-below _ _ (told (found_in _) c.ranges.track c.found.ensures c.in-In.is))
+overflow_mul-wanted c = grind (arith, found-below)
 
 pub overflow_add-wanted : goal.overflow_add-wanted
 overflow_add-wanted c =
-    let l = found-below _ _ (told (found_in _) c.ranges.track c.found.ensures c.in-In.is) in
-    omega (arith, (value-coordinate _ (told coordinate_of c.ranges.position c.of.ensures c.in-At.is)).1)
+    let l : coordinate_of c.args.position ≡ Some c.in_ok-l.l = grind arith in
+    omega (arith, found-below _ _ (some-told (found_in _) _ c.ranges.track c.in_ok-i.ensures), (value-coordinate _ l).1)
 
-pub info_at-info-requires : goal.info_at-info-requires
-info_at-info-requires c =
-    let u = unbroken-of c.args.self (sym c.unbroken.ensures ∙ c.if-not-unbroken.false) in
-    let s = u.shape in
-    record { n_in_bounds = (omega arith, omega arith); keys_value = u.order }
+pub invariant_of-points : goal.invariant_of-points
+invariant_of-points c = record { rule = unbroken-points _ (unbroken-of c.args.self (ok-true _ _ (sym c.in_ok-checked.ensures))) }
 
-pub of-requires-2 : goal.of-requires-2
-of-requires-2 c =
-    let u = unbroken-of c.args.self (sym c.unbroken.ensures ∙ c.if-not-unbroken.false) in
-    let l = found-below _ _ (told (found_in _) c.ranges.track c.found.ensures c.in-In.is) in
-    let m = (value-coordinate _ (told coordinate_of c.ranges.position c.of.ensures c.in-At.is)).1 in
+pub of-requires : goal.of-requires
+of-requires c =
+    let u = unbroken-of c.args.self (ok-true _ _ (sym c.in_ok-checked.ensures)) in
+    let l : coordinate_of c.args.position ≡ Some c.in_ok-l.l = grind arith in
+    let i = found-below _ _ (some-told (found_in _) _ c.ranges.track c.in_ok-i.ensures) in
+    let m = (value-coordinate _ l).1 in
     (omega arith, found-small c.info_at-info.ensures c.if-info-eq0.false (info-small _ u _))
 
--- ---- the ways out: each guard that lets the call through, and then the one that does not
-
-pub returns-then-not-unbroken : goal.returns-then-not-unbroken
+pub returns-in_err-checked : goal.returns-in_err-checked
 unfolding point_in
-returns-then-not-unbroken c = point-leaves _ _ _ (cond_no _ _ (sym c.unbroken.ensures ∙ c.if-not-unbroken.true) refl)
+returns-in_err-checked c = point-leaves _ _ _ {r = c.from_residual.result} (grind arith)
 
-pub returns-in_default : goal.returns-in_default
+pub returns-in_err-i : goal.returns-in_err-i
 unfolding point_in
-returns-in_default c =
-    point-leaves _ _ _ (cond_yes _ _ (sym c.unbroken.ensures ∙ c.if-not-unbroken.false)
-    (natural-out _ _ _ (told (found_in _) c.ranges.track c.found.ensures c.in_default.is) refl))
+returns-in_err-i c = point-leaves _ _ _ {r = c.from_residual-in_err-i.result} (grind arith)
 
-pub returns-in_default-of : goal.returns-in_default-of
+pub returns-in_err-l : goal.returns-in_err-l
 unfolding point_in
-returns-in_default-of c =
-    point-leaves _ _ _ (cond_yes _ _ (sym c.unbroken.ensures ∙ c.if-not-unbroken.false)
-    (natural-take _ _ _ (told (found_in _) c.ranges.track c.found.ensures c.in-In.is)
-    (place_out _ _ _ (told coordinate_of c.ranges.position c.of.ensures c.in_default-of.is) refl)))
+returns-in_err-l c = point-leaves _ _ _ {r = c.from_residual-in_err-l.result} (grind arith)
 
 pub returns-then-info-eq0 : goal.returns-then-info-eq0
 unfolding point_in
-returns-then-info-eq0 c =
-    point-leaves _ _ _ (cond_yes _ _ (sym c.unbroken.ensures ∙ c.if-not-unbroken.false)
-    (natural-take _ _ _ (told (found_in _) c.ranges.track c.found.ensures c.in-In.is)
-    (place-take _ _ _ (told coordinate_of c.ranges.position c.of.ensures c.in-At.is)
-    (point-absent _ c.info_at-info.ensures c.if-info-eq0.true))))
+returns-then-info-eq0 c = point-leaves _ _ _ {r = Err refusal.Point} (grind arith)
 
 pub returns : goal.returns
 unfolding point_in
 returns c =
-    point-leaves _ _ _ (cond_yes _ _ (sym c.unbroken.ensures ∙ c.if-not-unbroken.false)
-    (natural-take _ _ _ (told (found_in _) c.ranges.track c.found.ensures c.in-In.is)
-    (place-take _ _ _ (told coordinate_of c.ranges.position c.of.ensures c.in-At.is)
-    (point-shown _ c.info_at-info.ensures c.if-info-eq0.false c.of-2.ensures))))
+    let l : coordinate_of c.args.position ≡ Some c.in_ok-l.l = grind arith in
+    point-leaves _ _ _ {r = Ok c.of.result}
+    (cond_yes _ _ (ok-true _ _ (sym c.in_ok-checked.ensures))
+    (some-take _ _ _ (some-told (found_in _) _ c.ranges.track c.in_ok-i.ensures)
+    (some-take _ _ _ l (point-shown _ c.info_at-info.ensures c.if-info-eq0.false c.of.ensures))))

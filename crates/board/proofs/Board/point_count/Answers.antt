@@ -1,57 +1,46 @@
+use Rattle.std.specs.Prelude.{Ok}
+use Rattle.board.proofs.setup.Guards.{counted}
+use Rattle.track.proofs.Numbers.{clamped-most, some-take}
+use native.Mathlib.Omega.{arith}
+use mathlib.Core.Path.{◌∙◌, sym, ap}
+use mir.Facts.{to_z-of_z}
+use Rattle.track.specs.Number.{clamped_of}
+use Rattle.track.proofs.Tests.{cond_yes}
 use Rattle.board.proofs.call.Leaving.{point-count-leaves}
+use Rattle.board.proofs.quiet.Leaps.{unbroken-points}
 use Rattle.board.proofs.rules.Broken.{unbroken-of}
 use Rattle.board.proofs.rules.Present.{found-below}
-use Rattle.board.proofs.setup.Guards.{counted}
+use Rattle.board.proofs.setup.Results.{ok-true, some-told}
 use Rattle.board.specs.Board.{found_in}
 use Rattle.board.specs.Query.{count_in}
-use Rattle.board.specs.declared.query.CountRead.TheVariants.{Count}
-use Rattle.track.proofs.Numbers.{told, natural-out, natural-take, clamped-most}
-use Rattle.track.proofs.Tests.{cond_yes, cond_no}
-use Rattle.track.specs.Number.{clamped_of}
-use mathlib.Core.Path.{◌∙◌, sym, ap, refl}
-use mir.Facts.{to_z-of_z}
-use native.Mathlib.Omega.{arith}
 use Rattle.board.proofs.Board.point_count.Goals as goal
 
 pub overflow_mul-base : goal.overflow_mul-base
-overflow_mul-base c = omega (arith, found-below _ _ (told (found_in _) c.ranges.track c.found.ensures c.in-In.is))
+overflow_mul-base c = grind (arith, found-below)
 
 pub overflow_add-past : goal.overflow_add-past
-overflow_add-past c =
-    let l = found-below _ _ (told (found_in _) c.ranges.track c.found.ensures c.in-In.is) in
-    let m = clamped-most c.args.to in
-    omega (arith, c.clamped.ensures ∙ ap clamped_of (to_z-of_z c.ranges.to))
+overflow_add-past c = grind (arith, found-below, clamped-most)
 
 pub overflow_add-low : goal.overflow_add-low
-overflow_add-low c =
-    let l = found-below _ _ (told (found_in _) c.ranges.track c.found.ensures c.in-In.is) in
-    let m = clamped-most c.args.from in
-    omega (arith, c.clamped-2.ensures ∙ ap clamped_of (to_z-of_z c.ranges.from), c.before-2.ensures)
+overflow_add-low c = grind (arith, found-below, clamped-most)
 
-pub count_between-counted-requires : goal.count_between-counted-requires
-count_between-counted-requires c =
-    let u = unbroken-of c.args.self (sym c.unbroken.ensures ∙ c.if-not-unbroken.false) in
-    let s = u.shape in
-    record { n_in_bounds = omega arith; keys_value = u.order }
+pub invariant_of-points : goal.invariant_of-points
+invariant_of-points c = record { rule = unbroken-points _ (unbroken-of c.args.self (ok-true _ _ (sym c.in_ok-checked.ensures))) }
 
--- ---- the ways out: each guard that lets the call through, and then the one that does not
-
-pub returns-then-not-unbroken : goal.returns-then-not-unbroken
+pub returns-in_err-checked : goal.returns-in_err-checked
 unfolding count_in
-returns-then-not-unbroken c = point-count-leaves _ _ _ _ (cond_no _ _ (sym c.unbroken.ensures ∙ c.if-not-unbroken.true) refl)
+returns-in_err-checked c = point-count-leaves _ _ _ _ {r = c.from_residual.result} (grind arith)
 
-pub returns-in_default : goal.returns-in_default
+pub returns-in_err-base : goal.returns-in_err-base
 unfolding count_in
-returns-in_default c =
-    point-count-leaves _ _ _ _ (cond_yes _ _ (sym c.unbroken.ensures ∙ c.if-not-unbroken.false)
-    (natural-out _ _ _ (told (found_in _) c.ranges.track c.found.ensures c.in_default.is) refl))
+returns-in_err-base c = point-count-leaves _ _ _ _ {r = c.from_residual-in_err-base.result} (grind arith)
 
 pub returns : goal.returns
 unfolding count_in
 returns c =
-    let h = sym c.unbroken.ensures ∙ c.if-not-unbroken.false in
-    point-count-leaves _ _ _ _ (cond_yes _ _ h
-    (natural-take _ _ _ (told (found_in _) c.ranges.track c.found.ensures c.in-In.is)
-    (ap Count (counted _ (unbroken-of c.args.self h) _ _ _
-    (c.clamped-2.ensures ∙ ap clamped_of (to_z-of_z c.ranges.from)) c.before-2.ensures
-    (c.clamped.ensures ∙ ap clamped_of (to_z-of_z c.ranges.to)) c.count_between-counted.ensures))))
+    let h = ok-true _ _ (sym c.in_ok-checked.ensures) in
+    point-count-leaves _ _ _ _ {r = Ok c.count_between.result}
+    (cond_yes _ _ h
+    (some-take _ _ _ (some-told (found_in _) _ c.ranges.track c.in_ok-base.ensures)
+    (ap Ok (counted _ (unbroken-of c.args.self h) _ _ _ (c.clamped-2.ensures ∙ ap clamped_of (to_z-of_z c.ranges.from)) c.saturating_sub.ensures
+    (c.clamped.ensures ∙ ap clamped_of (to_z-of_z c.ranges.to)) c.count_between.ensures))))

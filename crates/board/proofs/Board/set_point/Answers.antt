@@ -1,32 +1,32 @@
-use Rattle.board.proofs.call.Leaving.{set-point-leaves}
+use Rattle.std.specs.Prelude.{Option, Some}
 use Prim.Native.Nat.{ℕ, ◌≤◌}
-use Rattle.board.proofs.rules.Broken.{unbroken-of, present-small}
-use Rattle.board.proofs.rules.Present.{found_in_lem, found-below, target_below}
-use Rattle.board.proofs.setup.Guards.{described-rule, points-refused, points-put, described-bad, described-good, described-told}
-use Rattle.board.specs.Board.{found_in, Unbroken, PointRule, track_at}
-use Rattle.board.specs.Setup.{described_by, set_point}
-use Rattle.board.specs.Points.{stored_in}
-use Rattle.board.specs.declared.Board.{Board}
-use Rattle.board.specs.declared.points.Point.{Point}
-use Rattle.board.specs.declared.setup.Described.TheVariants.{Good}
-use Rattle.track.proofs.Numbers.{told, natural-out, natural-take}
-use Rattle.track.proofs.Tests.{cond_yes, cond_no}
-use Rattle.track.specs.declared.number.Natural.TheVariants.{In}
-use borrow.Author.Tests.{not-true, not-false}
 use lib.IntN.{ℤ}
+use mathlib.Core.Bool.{true}
 use mathlib.Core.Path.{◌≡◌, ◌∙◌, sym, ap₂}
 use native.Mathlib.Omega.{arith}
+use Rattle.track.specs.Setup.{settled}
+use Rattle.board.proofs.call.Leaving.{set-point-leaves}
+use Rattle.board.proofs.quiet.Leaps.{unbroken-points}
+use Rattle.board.proofs.rules.Broken.{unbroken-of, present-small}
+use Rattle.board.proofs.rules.Present.{found_in_lem, found-below, target_below}
+use Rattle.board.proofs.setup.Guards.{described-rule, described-told, points-refused, points-put}
+use Rattle.board.proofs.setup.Results.{ok-some, err-none, ok-true, some-told}
+use Rattle.board.specs.Board.{found_in, Unbroken, PointRule, track_at, unbroken_test}
+use Rattle.board.specs.Points.{stored_in}
+use Rattle.board.specs.Setup.{Outcome, outcome, refused, accepted, board_with, described_by, on_described, set_point}
+use Rattle.board.specs.declared.Board.{Board}
+use Rattle.board.specs.declared.points.Point.{Point}
 use Rattle.board.proofs.Board.set_point.Goals as goal
 
-pub bounds-tracks-i : goal.bounds-tracks-i
-bounds-tracks-i c = found-below _ _ (told (found_in _) c.ranges.track c.found.ensures c.in-In.is)
+pub bounds-self-i : goal.bounds-self-i
+bounds-self-i c = grind (arith, found-below)
 
 pub overflow_cast-i : goal.overflow_cast-i
-overflow_cast-i c = record { fits = omega (arith, found-below _ _ (told (found_in _) c.ranges.track c.found.ensures c.in-In.is)) }
+overflow_cast-i c = grind (arith, found-below)
 
 -- the point that is described for the track that is found keeps the rules of a point
-ruled : (b : Board) (track position event wait command target : ℤ) {i : ℕ} {p : Point} → found_in b.present track ≡ In i →
-    described_by b.present i (track_at b.tracks i) position event wait command target ≡ Good p → PointRule b.present b.tracks p
+ruled : (b : Board) (track position event wait command target : ℤ) {i : ℕ} {p : Point} → found_in b.present track ≡ Some i →
+    described_by b.present i (track_at b.tracks i) position event wait command target ≡ Some p → PointRule b.present b.tracks p
 ruled b track position event wait command target e d =
     described-rule b.present _ b.tracks position event wait command target (found_in_lem b.present track e) d
 
@@ -36,69 +36,64 @@ high b u r = omega (arith, r.high, (u.tracks _ r.track).valid.ordered.last)
 
 pub key-requires : goal.key-requires
 key-requires c =
-    let r = ruled c.args.self _ _ _ _ _ _ (told (found_in _) c.ranges.track c.found.ensures c.in-In.is)
-    (described-told _ _ _ c.ranges.position c.ranges.event c.ranges.wait c.ranges.command c.ranges.target c.describe.ensures c.in-Good.is) in
-    (present-small _ _ r.track, high c.args.self (unbroken-of c.args.self (sym c.unbroken.ensures ∙ c.if-not-unbroken.false)) r)
+    let a = c.args in
+    let r = ruled a.self _ _ _ _ _ _ (some-told (found_in _) _ c.ranges.track c.in_ok-i.ensures)
+    (described-told _ _ _ c.ranges.position c.ranges.event c.ranges.wait c.ranges.command c.ranges.target c.describe.ensures (ok-some _ _ (sym c.in_ok-p.ensures.value))) in
+    (present-small _ _ r.track, high a.self (unbroken-of a.self (ok-true _ _ (sym c.in_ok-checked.ensures))) r)
 
 pub info-requires : goal.info-requires
 info-requires c =
-    let r = ruled c.args.self _ _ _ _ _ _ (told (found_in _) c.ranges.track c.found.ensures c.in-In.is)
-    (described-told _ _ _ c.ranges.position c.ranges.event c.ranges.wait c.ranges.command c.ranges.target c.describe.ensures c.in-Good.is) in
+    let a = c.args in
+    let r = ruled a.self _ _ _ _ _ _ (some-told (found_in _) _ c.ranges.track c.in_ok-i.ensures)
+    (described-told _ _ _ c.ranges.position c.ranges.event c.ranges.wait c.ranges.command c.ranges.target c.describe.ensures (ok-some _ _ (sym c.in_ok-p.ensures.value))) in
     (r.wait, r.command, target_below _ _ _ r.target)
 
-pub stored-stored-requires : goal.stored-stored-requires
-stored-stored-requires c =
-    let u = unbroken-of c.args.self (sym c.unbroken.ensures ∙ c.if-not-unbroken.false) in
-    record { count_le_point_most = u.count; self_value = u.order }
+pub stored-requires : goal.stored-requires
+stored-requires c = record { rule = unbroken-points _ (unbroken-of c.args.self (ok-true _ _ (sym c.in_ok-checked.ensures))) }
 
--- ---- the ways out: each guard that lets the call through, and then the one that does not
-
-pub returns-then-not-unbroken : goal.returns-then-not-unbroken
+pub returns-in_err-checked : goal.returns-in_err-checked
 unfolding set_point
-returns-then-not-unbroken c =
-    set-point-leaves _ _ _ _ _ _ _ (cond_no _ _ (sym c.unbroken.ensures ∙ c.if-not-unbroken.true) c.refused.ensures)
+returns-in_err-checked c = set-point-leaves _ _ _ _ _ _ _ {r = outcome c.args.self c.from_residual.result} (grind arith)
 
-pub returns-in_default : goal.returns-in_default
+pub returns-in_err-i : goal.returns-in_err-i
 unfolding set_point
-returns-in_default c =
-    set-point-leaves _ _ _ _ _ _ _ (cond_yes _ _ (sym c.unbroken.ensures ∙ c.if-not-unbroken.false)
-    (natural-out _ _ _ (told (found_in _) c.ranges.track c.found.ensures c.in_default.is) c.refused-in_default.ensures))
+returns-in_err-i c = set-point-leaves _ _ _ _ _ _ _ {r = outcome c.args.self c.from_residual-in_err-i.result} (grind arith)
 
 pub returns-then-not-settled : goal.returns-then-not-settled
 unfolding set_point
-returns-then-not-settled c =
-    set-point-leaves _ _ _ _ _ _ _ (cond_yes _ _ (sym c.unbroken.ensures ∙ c.if-not-unbroken.false)
-    (natural-take _ _ _ (told (found_in _) c.ranges.track c.found.ensures c.in-In.is)
-    (cond_no _ _ (sym c.settled.ensures ∙ c.if-not-settled.true) c.refused-then-not-settled.ensures)))
+returns-then-not-settled c = set-point-leaves _ _ _ _ _ _ _ {r = refused 2 c.args.self} (grind arith)
 
-pub returns-in_default-describe : goal.returns-in_default-describe
+-- what the call comes to where its track is settled
+reached : (b : Board) (track position event wait command target : ℤ) {i : ℕ} {d : Option Point} → unbroken_test b ≡ true →
+    found_in b.present track ≡ Some i → settled (track_at b.tracks i).mode ≡ true →
+    described_by b.present i (track_at b.tracks i) position event wait command target ≡ d → {r : Outcome} → r ≡ on_described b d →
+    r ≡ set_point b track position event wait command target
 unfolding set_point
-returns-in_default-describe c =
-    set-point-leaves _ _ _ _ _ _ _ (cond_yes _ _ (sym c.unbroken.ensures ∙ c.if-not-unbroken.false)
-    (natural-take _ _ _ (told (found_in _) c.ranges.track c.found.ensures c.in-In.is)
-    (cond_yes _ _ (sym c.settled.ensures ∙ c.if-not-settled.false)
-    (described-bad c.args.self
-    (described-told _ _ _ c.ranges.position c.ranges.event c.ranges.wait c.ranges.command c.ranges.target c.describe.ensures c.in_default-describe.is)
-    c.refused-in_default-describe.ensures))))
+reached b track position event wait command target u f m d q = q ∙ simp (u, f, m, d)
 
-pub returns-then-not-stored : goal.returns-then-not-stored
-unfolding set_point
-returns-then-not-stored c =
-    set-point-leaves _ _ _ _ _ _ _ (cond_yes _ _ (sym c.unbroken.ensures ∙ c.if-not-unbroken.false)
-    (natural-take _ _ _ (told (found_in _) c.ranges.track c.found.ensures c.in-In.is)
-    (cond_yes _ _ (sym c.settled.ensures ∙ c.if-not-settled.false)
-    (described-good c.args.self
-    (described-told _ _ _ c.ranges.position c.ranges.event c.ranges.wait c.ranges.command c.ranges.target c.describe.ensures c.in-Good.is)
-    (points-refused c.args.self 5 (c.stored-stored.ensures ∙ ap₂ (stored_in c.args.self.points) c.key.ensures c.info.ensures)
-    (not-true _ c.if-not-stored.true) c.refused-then-not-stored.ensures)))))
+pub returns-in_err-p : goal.returns-in_err-p
+returns-in_err-p c =
+    let q : outcome c.args.self c.from_residual-in_err-p.result ≡ refused 3 c.args.self = grind arith in
+    set-point-leaves _ _ _ _ _ _ _ {r = outcome c.args.self c.from_residual-in_err-p.result}
+    (reached _ _ _ _ _ _ _ (ok-true _ _ (sym c.in_ok-checked.ensures)) (some-told (found_in _) _ c.ranges.track c.in_ok-i.ensures)
+    (sym c.settled.ensures ∙ c.if-not-settled.false)
+    (described-told _ _ _ c.ranges.position c.ranges.event c.ranges.wait c.ranges.command c.ranges.target c.describe.ensures (err-none _ _ (sym c.in_err-p.ensures.value)).0) q)
+
+pub returns-in_err-self : goal.returns-in_err-self
+returns-in_err-self c =
+    let q : outcome c.args.self c.from_residual-in_err-self.result ≡ refused 5 c.args.self = grind arith in
+    set-point-leaves _ _ _ _ _ _ _ {r = outcome c.args.self c.from_residual-in_err-self.result}
+    (reached _ _ _ _ _ _ _ (ok-true _ _ (sym c.in_ok-checked.ensures)) (some-told (found_in _) _ c.ranges.track c.in_ok-i.ensures)
+    (sym c.settled.ensures ∙ c.if-not-settled.false)
+    (described-told _ _ _ c.ranges.position c.ranges.event c.ranges.wait c.ranges.command c.ranges.target c.describe.ensures (ok-some _ _ (sym c.in_ok-p.ensures.value)))
+    (points-refused c.args.self 5 (c.stored.ensures ∙ ap₂ (stored_in c.args.self.points) c.key.ensures c.info.ensures)
+    (err-none _ _ (sym c.in_err-self.ensures.value)).0 q))
 
 pub returns : goal.returns
-unfolding set_point
 returns c =
-    set-point-leaves _ _ _ _ _ _ _ (cond_yes _ _ (sym c.unbroken.ensures ∙ c.if-not-unbroken.false)
-    (natural-take _ _ _ (told (found_in _) c.ranges.track c.found.ensures c.in-In.is)
-    (cond_yes _ _ (sym c.settled.ensures ∙ c.if-not-settled.false)
-    (described-good c.args.self
-    (described-told _ _ _ c.ranges.position c.ranges.event c.ranges.wait c.ranges.command c.ranges.target c.describe.ensures c.in-Good.is)
-    (points-put c.args.self 5 (c.stored-stored.ensures ∙ ap₂ (stored_in c.args.self.points) c.key.ensures c.info.ensures)
-    (not-false _ c.if-not-stored.false) c.accepted.ensures)))))
+    let b = c.args.self in
+    set-point-leaves _ _ _ _ _ _ _ {r = accepted (board_with b b.tracks b.present c.in_ok-self.field-0 b.held)}
+    (reached _ _ _ _ _ _ _ (ok-true _ _ (sym c.in_ok-checked.ensures)) (some-told (found_in _) _ c.ranges.track c.in_ok-i.ensures)
+    (sym c.settled.ensures ∙ c.if-not-settled.false)
+    (described-told _ _ _ c.ranges.position c.ranges.event c.ranges.wait c.ranges.command c.ranges.target c.describe.ensures (ok-some _ _ (sym c.in_ok-p.ensures.value)))
+    (points-put b 5 (c.stored.ensures ∙ ap₂ (stored_in b.points) c.key.ensures c.info.ensures) (ok-some _ _ (sym c.in_ok-self.ensures.value))))

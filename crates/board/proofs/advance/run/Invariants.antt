@@ -4,26 +4,24 @@ use Rattle.board.proofs.advance.Standing.{Standing, Pass}
 use Rattle.board.proofs.advance.Advancing.{board_at}
 use Rattle.board.proofs.advance.Turning.{Turning}
 use Rattle.board.specs.Advance.{turns_left}
-use Rattle.board.specs.Board.{board_of}
 use Rattle.board.specs.Call.{world}
 use Rattle.board.proofs.advance.run.Given as goal
 
 abbrev pub invariant-ticks : goal.invariant-ticks
 invariant-ticks l =
-    Standing (board_of l.fn.given l.present l.keys l.infos l.n l.fn.from.0 l.kept) l.wanted l.fn.log l.log l.tracks l.clock l.held l.taken l.answer
-    l.word l.led l.stage l.reached
+    Standing l.b l.wanted l.fn.log l.log l.tracks l.clock l.held l.taken l.answer
+    l.word l.led
 
 abbrev pub decreases-ticks : goal.decreases-ticks
 decreases-ticks l =
     turns_left l.look (l.wanted - l.taken)
-    (world (board_at (board_of l.fn.given l.present l.keys l.infos l.n l.fn.from.0 l.kept) l.tracks l.clock l.held) l.log)
+    (world (board_at l.b l.tracks l.clock l.held) l.log)
 
 abbrev pub invariant-loop-left : goal.invariant-loop-left
 invariant-loop-left l =
-    let b = board_of l.fn.given l.present l.keys l.infos l.n l.fn.from.0 l.kept in
     record {
-      pass : Pass b l.wanted l.fn.log l.log l.initial.tracks l.back l.clock l.held l.taken l.word l.led l.skipped l.room;
-      turning : Turning b l.initial.tracks l.clock l.word l.skipped l.stage l.reached l.tracks l.rest l.left l.staged l.m l.more;
+      pass : Pass l.b l.wanted l.fn.log l.log l.initial.tracks l.back l.clock l.held l.taken l.word l.led l.skipped l.room;
+      turning : Turning l.b l.initial.tracks l.clock l.word l.skipped l.stage l.reached l.tracks l.rest l.left l.more;
     }
 
 abbrev pub decreases-loop-left : goal.decreases-loop-left

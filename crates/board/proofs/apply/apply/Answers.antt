@@ -6,37 +6,16 @@ use Rattle.board.proofs.call.Leaving.{set-master-leaves}
 use Rattle.board.proofs.apply.apply.Goals as goal
 
 pub returns-in-AddTrack : goal.returns-in-AddTrack
-returns-in-AddTrack c = applied _ (c.in-AddTrack.is ∙ (λ j. call.AddTrack (passed c.in-AddTrack.i (search rules) j) (passed c.in-AddTrack.low (search rules) j) (passed c.in-AddTrack.high (search rules) j))) (c.add_track.ensures _) c.outcome.ensures
+returns-in-AddTrack c = applied _ (c.in-AddTrack.is ∙ (λ j. call.AddTrack (passed c.in-AddTrack.i (search rules) j) (passed c.in-AddTrack.low (search rules) j) (passed c.in-AddTrack.high (search rules) j))) (c.add_track.ensures _) c.accepted.ensures
 
 pub returns-in-SetUp : goal.returns-in-SetUp
-returns-in-SetUp c = applied _ (c.in-SetUp.is ∙ (λ j. call.SetUp (passed c.in-SetUp.i (search rules) j) c.in-SetUp.change)) (c.set_up.ensures _) c.outcome-in-SetUp.ensures
+returns-in-SetUp c = applied _ (c.in-SetUp.is ∙ (λ j. call.SetUp (passed c.in-SetUp.i (search rules) j) c.in-SetUp.change)) (c.set_up.ensures _) c.accepted-in-SetUp.ensures
 
 pub returns-in-SetPoint : goal.returns-in-SetPoint
-returns-in-SetPoint c = applied _ (c.in-SetPoint.is ∙ (λ j. call.SetPoint (passed c.in-SetPoint.i (search rules) j) (passed c.in-SetPoint.p (search rules) j) (passed c.in-SetPoint.e (search rules) j) (passed c.in-SetPoint.w (search rules) j) (passed c.in-SetPoint.k (search rules) j) (passed c.in-SetPoint.g (search rules) j))) (c.set_point.ensures _) c.outcome-in-SetPoint.ensures
+returns-in-SetPoint c = applied _ (c.in-SetPoint.is ∙ (λ j. call.SetPoint (passed c.in-SetPoint.i (search rules) j) (passed c.in-SetPoint.p (search rules) j) (passed c.in-SetPoint.e (search rules) j) (passed c.in-SetPoint.w (search rules) j) (passed c.in-SetPoint.k (search rules) j) (passed c.in-SetPoint.g (search rules) j))) (c.set_point.ensures _) c.accepted-in-SetPoint.ensures
 
 pub returns-in-DropPoint : goal.returns-in-DropPoint
-returns-in-DropPoint c = applied _ (c.in-DropPoint.is ∙ (λ j. call.DropPoint (passed c.in-DropPoint.i (search rules) j) (passed c.in-DropPoint.p (search rules) j))) (c.drop_point.ensures _) c.outcome-in-DropPoint.ensures
-
-pub returns-in-Play : goal.returns-in-Play
-returns-in-Play c = applied _ (c.in-Play.is ∙ (λ j. call.Play (passed c.in-Play.i (search rules) j))) c.play.ensures c.outcome-in-Play.ensures
-
-pub returns-in-Pause : goal.returns-in-Pause
-returns-in-Pause c = applied _ (c.in-Pause.is ∙ (λ j. call.Pause (passed c.in-Pause.i (search rules) j))) c.pause.ensures c.outcome-in-Pause.ensures
-
-pub returns-in-Resume : goal.returns-in-Resume
-returns-in-Resume c = applied _ (c.in-Resume.is ∙ (λ j. call.Resume (passed c.in-Resume.i (search rules) j))) c.resume.ensures c.outcome-in-Resume.ensures
-
-pub returns-in-Stop : goal.returns-in-Stop
-returns-in-Stop c = applied _ (c.in-Stop.is ∙ (λ j. call.Stop (passed c.in-Stop.i (search rules) j))) c.stop.ensures c.outcome-in-Stop.ensures
-
-pub returns-in-Advance : goal.returns-in-Advance
-returns-in-Advance c = applied _ (c.in-Advance.is ∙ (λ j. call.Advance (passed c.in-Advance.n (search rules) j))) c.advance.ensures c.progress.ensures
-
-pub returns-in-Clear : goal.returns-in-Clear
-returns-in-Clear c = applied _ c.in-Clear.is (c.clear.ensures _) c.outcome-in-Clear.ensures
-
-pub returns-in-Clock : goal.returns-in-Clock
-returns-in-Clock c = applied _ c.in-Clock.is (c.clock_and_held.ensures _) c.clock.ensures
+returns-in-DropPoint c = applied _ (c.in-DropPoint.is ∙ (λ j. call.DropPoint (passed c.in-DropPoint.i (search rules) j) (passed c.in-DropPoint.p (search rules) j))) (c.drop_point.ensures _) c.accepted-in-DropPoint.ensures
 
 pub returns-in-Track : goal.returns-in-Track
 returns-in-Track c = applied _ (c.in-Track.is ∙ (λ j. call.Track (passed c.in-Track.i (search rules) j))) (c.track.ensures _) c.track-in-Track.ensures
@@ -49,4 +28,4 @@ returns-in-PointCount c = applied _ (c.in-PointCount.is ∙ (λ j. call.PointCou
 
 pub returns-in-Master : goal.returns-in-Master
 returns-in-Master c = applied _ (c.in-Master.is ∙ (λ j. call.Master (passed c.in-Master.i (search rules) j) (passed c.in-Master.m (search rules) j) c.in-Master.pairs))
-    (set-master-leaves _ _ _ _ c.master.ensures _) c.outcome-in-Master.ensures
+    (set-master-leaves _ _ _ _ c.master.ensures _) c.accepted-in-Master.ensures

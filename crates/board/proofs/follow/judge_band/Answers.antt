@@ -1,30 +1,28 @@
-use Prim.Native.Nat.{◌-◌}
-use Rattle.board.proofs.follow.Judging.{judge-same, judge-none, judge-one, up-most}
+use Rattle.board.proofs.follow.Following.{band-same, band-none, band-one}
+use Rattle.board.proofs.follow.Judging.{up-most}
+use Rattle.board.proofs.tick.Staging.{staged-none}
+use Rattle.board.specs.Log.{log_bytes}
+use Rattle.board.specs.Tick.{band_records}
 use Rattle.track.proofs.Follows.{judged-most}
+use mathlib.Core.List.{◌++◌}
+use mathlib.Core.Path.{sym, ap, ◌∙◌}
 use native.Mathlib.Omega.{arith}
 use Rattle.board.proofs.follow.judge_band.Goals as goal
 
-pub returns-then-band-t : goal.returns-then-band-t
-returns-then-band-t c =
-    let w = judge-same c.args.clock.0 c.args.track c.args.t c.args.m c.args.stage.now c.args.n c.judged-band.result c.judged-band.ensures c.if-band-t.true in
-    record { judged = w.0; bytes = w.1 }
-
-pub returns-then-band-eq0 : goal.returns-then-band-eq0
-returns-then-band-eq0 c =
-    let w = judge-none c.args.clock.0 c.args.track c.args.t c.args.m c.args.stage.now c.args.n c.judged-band.result c.judged-band.ensures c.if-band-eq0.true in
-    record { judged = w.0; bytes = w.1 }
+pub returns-then-band-t-clause-records : goal.returns-then-band-t-clause-records
+returns-then-band-t-clause-records c =
+    let e = sym c.judged-band.ensures in
+    elim c.then-band-t.branch [
+      | goal.then-band-t-via-then-band-t v ↦ staged-none _ (band-same _ _ _ _ (e ∙ v.if-band-t.true))
+      | goal.then-band-t-via-else-band-t+then-band-eq0 v ↦ staged-none _ (band-none _ _ _ _ (e ∙ v.if-band-eq0.true))
+    ]
 
 pub bounds-t-band : goal.bounds-t-band
 bounds-t-band c = let m = judged-most c.args.t c.args.m in
     let u = up-most c.args.t.thresholds in
     omega (arith, c.judged-band.ensures, m, u, c.requires.follow_rule.thresholds, c.if-band-eq0.false)
 
-pub overflow_cast-event-2 : goal.overflow_cast-event-2
-overflow_cast-event-2 c = let r = c.requires.follow_rule.event (c.judged-band.result - 1) in
-    omega (arith, r)
-
-pub returns : goal.returns
-returns c =
-    let w = judge-one c.args.clock.0 c.args.track c.args.t c.args.m c.args.stage.now c.args.n c.judged-band.result c.judged-band.ensures
-    c.if-band-t.false c.if-band-eq0.false c.put_record.ensures in
-    record { judged = w.0; bytes = w.1 }
+pub returns-clause-records : goal.returns-clause-records
+returns-clause-records c =
+    let o = sym (band-one _ _ _ _ c.if-band-t.false c.if-band-eq0.false) ∙ ap (band_records _ _ _) c.judged-band.ensures in
+    c.put.ensures ∙ ap (λ rs. c.args.stage.now ++ log_bytes rs) o

@@ -6,20 +6,20 @@ use native.Mathlib.Omega.{arith}
 use Rattle.board.proofs.follow.judge_bands.Goals as goal
 
 pub loop-left-init : goal.loop-left-init
-loop-left-init c = (search rules, judging-start _ _ _ _ _ c.requires.follow_rules (search (length-mapped, rules)) c.requires.record_width_in_bounds)
+loop-left-init c = (search rules, judging-start _ _ _ _ c.requires.follow_rules (search (length-mapped, rules)) c.requires.room)
 
 pub bounds-next-t : goal.bounds-next-t
 bounds-next-t c =
     let l = lowest c.loop-left.left c.loop-left.invariant.0 c.loop-left-test.true in
-    (judging-rule _ _ _ _ _ c.loop-left.next c.loop-left.stage c.loop-left.count c.loop-left.invariant.1 _ _ l.rest).number
+    (judging-rule _ _ _ _ c.loop-left.next c.loop-left.stage c.loop-left.invariant.1 _ _ l.rest).number
 
 -- the follower of a turn can be judged
-pub judge_band-r-requires : goal.judge_band-r-requires
-judge_band-r-requires c =
+pub judge_band-requires : goal.judge_band-requires
+judge_band-requires c =
     let l = lowest c.loop-left.left c.loop-left.invariant.0 c.loop-left-test.true in
     record {
-      follow_rule = judging-rule _ _ _ _ _ c.loop-left.next c.loop-left.stage c.loop-left.count c.loop-left.invariant.1 _ _ l.rest;
-      record_width_in_bounds = judging-room _ _ _ _ _ c.loop-left.next c.loop-left.stage c.loop-left.count c.loop-left.invariant.1 _ _ l.rest;
+      follow_rule = judging-rule _ _ _ _ c.loop-left.next c.loop-left.stage c.loop-left.invariant.1 _ _ l.rest;
+      room = judging-room _ _ _ _ c.loop-left.next c.loop-left.stage c.loop-left.invariant.1 _ _ l.rest;
     }
 
 pub overflow_sub-left : goal.overflow_sub-left
@@ -29,13 +29,13 @@ pub loop-left-smaller : goal.loop-left-smaller
 loop-left-smaller c = let l = lowest c.loop-left.left c.loop-left.invariant.0 c.loop-left-test.true in omega arith
 
 pub loop-left-preserved : goal.loop-left-preserved
-loop-left-preserved c = let l = lowest c.loop-left.left c.loop-left.invariant.0 c.loop-left-test.true in (
-  l.fits,
-  judging-turn _ _ _ _ _ c.loop-left.next c.loop-left.stage c.loop-left.count c.loop-left.invariant.1 _ _ l.rest _ _
-      (c.judge_band-r.ensures.judged, c.judge_band-r.ensures.bytes),
-)
+loop-left-preserved c =
+    let l = lowest c.loop-left.left c.loop-left.invariant.0 c.loop-left-test.true in (
+      l.fits,
+      judging-turn _ _ _ _ c.loop-left.next c.loop-left.stage c.loop-left.invariant.1 _ _ l.rest c.judge_band.ensures.band c.judge_band.ensures.records,
+    )
 
 pub returns : goal.returns
 returns c =
-    let d = judging-end _ _ _ _ _ c.loop-left.next c.loop-left.stage c.loop-left.count c.loop-left.invariant.1 (no-members _ c.loop-left-test.false) in
-    record { tracks = d.0; count = d.1.0; bytes = d.1.1 }
+    let d = judging-end _ _ _ _ c.loop-left.next c.loop-left.stage c.loop-left.invariant.1 (no-members _ c.loop-left-test.false) in
+    record { tracks = d.0; records = d.1 }

@@ -1,11 +1,16 @@
+use Rattle.std.proofs.lemmas.Bool.Decides.{nat_tests}
+use native.Mathlib.Omega.{arith}
 use Rattle.board.specs.Log.{kind_test}
-use borrow.Author.Tests.{le-leb, lt-leb}
 use Rattle.board.proofs.log.kind_known.Goals as goal
 
-pub returns-then-kind-lt-POINT : goal.returns-then-kind-lt-POINT
+pub returns-in-1-to-4 : goal.returns-in-1-to-4
 unfolding kind_test
-returns-then-kind-lt-POINT c = simp (lt-leb _ _ c.if-kind-lt-POINT.true)
+returns-in-1-to-4 c = grind (arith, nat_tests)
 
-pub returns : goal.returns
+pub returns-in_default : goal.returns-in_default
 unfolding kind_test
-returns c = simp (le-leb _ _ c.if-kind-lt-POINT.false)
+returns-in_default c = grind (arith, nat_tests)
+
+pub returns-in_default-2 : goal.returns-in_default-2
+unfolding kind_test
+returns-in_default-2 c = grind (arith, nat_tests)

@@ -1,7 +1,8 @@
-use Rattle.board.proofs.log.Records.{four-writes}
+use Rattle.board.proofs.log.Words.{write-part}
+use Rattle.board.proofs.log.Records.{length-record}
+use mathlib.Core.Path.{◌∙◌}
 use native.Mathlib.Omega.{arith}
 use Rattle.board.proofs.log.put_record.Goals as goal
 
 pub returns : goal.returns
-returns c = four-writes c.args.log.now _ _ _ _ c.args.at _ c.args.r (omega (arith, c.requires)) c.twos-word.ensures
-    c.put_word.ensures c.put_four.ensures c.put_word-2.ensures c.put_word-3.ensures
+returns c = write-part c.args.at _ c.args.log.now (c.copy_from_slice.ensures.after ∙ c.from.ensures) (omega (arith, length-record c.args.r))

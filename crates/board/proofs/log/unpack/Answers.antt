@@ -1,13 +1,19 @@
-use Rattle.board.proofs.log.Records.{unpack-refuses-length, unpack-refuses-kind, unpack-held}
-use mathlib.Core.Path.{◌∙◌, sym}
+use Rattle.board.proofs.log.Records.{unpack-refuses-length, unpack-refuses-kind, unpack-holds, read-kind}
+use Rattle.board.specs.Log.{record_values, kind_test, record_is, spelled}
+use mathlib.Core.Path.{◌≡◌, ◌∙◌, sym, ap}
 use Rattle.board.proofs.log.unpack.Goals as goal
 
-pub returns-then-s-ne-WIDTH : goal.returns-then-s-ne-WIDTH
-returns-then-s-ne-WIDTH c = sym (unpack-refuses-length c.args.s.now c.if-s-ne-WIDTH.true)
+pub returns-in_default : goal.returns-in_default
+returns-in_default c = sym (unpack-refuses-length c.args.s.now c.in_default.ensures.1)
 
 pub returns-then-not-kind_known : goal.returns-then-not-kind_known
-returns-then-not-kind_known c = sym (unpack-refuses-kind c.args.s.now (sym c.kind_known.ensures ∙ c.if-not-kind_known.true))
+returns-then-not-kind_known c =
+    let read : record_values c.from-r.result ≡ spelled c.args.s.now = c.from-r.ensures ∙ ap spelled c.in-Ok.ensures.1.same in
+    sym (unpack-refuses-kind c.args.s.now (ap kind_test (sym (read-kind _ _ read)) ∙ sym c.kind_known.ensures ∙ c.if-not-kind_known.true))
 
 pub returns : goal.returns
-returns c = unpack-held c.args.s.now c.coordinate_of-position.result c.if-s-ne-WIDTH.false (sym c.kind_known.ensures ∙ c.if-not-kind_known.false) c.word.ensures
-    c.word-2.ensures c.coordinate_of-position.ensures c.word-3.ensures
+returns c =
+    let w = c.in-Ok.ensures.1 in
+    let read : record_values c.from-r.result ≡ spelled c.args.s.now = c.from-r.ensures ∙ ap spelled w.same in
+    ap record_is read
+    ∙ sym (unpack-holds c.args.s.now w.long (ap kind_test (sym (read-kind _ _ read)) ∙ sym c.kind_known.ensures ∙ c.if-not-kind_known.false))

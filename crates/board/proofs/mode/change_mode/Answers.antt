@@ -1,125 +1,103 @@
+use Rattle.std.specs.Prelude.{Some}
 use Prim.Native.Nat.{ℕ, ◌≤◌}
 use Rattle.board.proofs.rules.Broken.{unbroken-of}
 use Rattle.board.proofs.tick.Commands.{Goes?, grid-goes}
 use Rattle.board.proofs.rules.Present.{found_in_lem, found-below}
-use Rattle.board.proofs.mode.Results.{result-gives, follows-declined, follows-silent, follows-noted, follows-full, changed-with, unmoved}
+use Rattle.board.proofs.mode.Results.{result-gives, refused-gives, follows-silent, follows-noted, full-declines, changed-with}
 use Rattle.board.specs.declared.Board.{Board}
-use Rattle.board.specs.Board.{found_in, unbroken_test, track_at, board_of}
+use Rattle.board.specs.Board.{found_in, unbroken_test, track_at}
 use Rattle.board.specs.Log.{capacity}
-use Rattle.board.specs.declared.mode.ModeChange.{ModeChange}
 use Rattle.board.specs.Mode.{decided, changes_to, mode_result}
-use Rattle.track.proofs.Numbers.{told, natural-out, natural-take}
-use Rattle.track.proofs.Tests.{cond_yes, cond_no}
+use Rattle.board.specs.Tick.{listed}
+use Rattle.track.specs.declared.refusal.Refusal.TheVariants as refusal
+use Rattle.track.proofs.Numbers.{some-take}
+use Rattle.track.proofs.Tests.{cond_yes}
 use Rattle.track.specs.Grid.{grid_of}
 use Rattle.track.specs.Rule.{Valid}
-use Rattle.track.specs.declared.grid.Decision.TheVariants.{Goes}
-use Rattle.track.specs.declared.number.Natural.TheVariants.{In}
-use borrow.Author.Tests.{lt-leb, le-leb}
+use borrow.Author.Tests.{le-leb}
 use lib.IntN.{ℤ}
 use mathlib.Core.Bool.{true}
 use mathlib.Core.Path.{◌≡◌, ◌∙◌, sym, ap, refl, subst}
 use native.Mathlib.Omega.{arith}
 use Rattle.board.proofs.mode.change_mode.Goals as goal
 
-pub bounds-tracks-at : goal.bounds-tracks-at
-bounds-tracks-at c = found-below _ _ (told (found_in _) c.ranges.track c.found.ensures c.in-In.is)
+-- the guards are passed: the board keeps its rules, the track is found, and the grid gives a mode
+record Passed (b : Board) (track : ℤ) (call i mode : ℕ) : Type 0 where
+  kept : unbroken_test b ≡ true
+  found : found_in b.present track ≡ Some i
+  goes : grid_of (track_at b.tracks i).mode call ≡ Some mode
 
--- a mode that the grid gives
-low : (mode call : ℕ) {new : ℕ} → grid_of mode call ≡ Goes new → new ≤ 3
-low mode call e = subst Goes? e (grid-goes mode call)
+module _ (b : Board) (track : ℤ) (call : ℕ) {i mode : ℕ} (p : Passed b track call i mode) where
+  valid : Valid (track_at b.tracks i)
+  valid = ((unbroken-of b p.kept).tracks _ (found_in_lem b.present track p.found)).valid
 
--- a track that is found in a board that keeps its rules
-valid : (b : Board) (track : ℤ) {i : ℕ} → unbroken_test b ≡ true → found_in b.present track ≡ In i → Valid (track_at b.tracks i)
-valid b track u e = ((unbroken-of b u).tracks _ (found_in_lem b.present track e)).valid
+  low : mode ≤ 3
+  low = subst Goes? p.goes (grid-goes _ call)
 
--- up to the change, the result is that of the change
-chosen : (b : Board) (n : ℕ) (track : ℤ) (call : ℕ) {i new : ℕ} → unbroken_test b ≡ true → b.held ≤ capacity n →
-    found_in b.present track ≡ In i → grid_of (track_at b.tracks i).mode call ≡ Goes new → changes_to b n i new ≡ mode_result b n track call
-unfolding mode_result decided
-chosen b n track call u h e g =
-    cond_yes _ _ u (cond_yes _ _ (le-leb _ _ h) (natural-take _ _ _ e (ap (decided _ _ _) (sym g))))
+  -- up to the change, the result is that of the change
+  chosen : (n : ℕ) → b.held ≤ capacity n → changes_to b n i mode ≡ mode_result b n track call
+  unfolding mode_result decided
+  chosen n h = cond_yes _ _ p.kept (cond_yes _ _ (le-leb _ _ h) (some-take _ _ _ p.found (ap (decided _ _ _) (sym p.goes))))
 
-pub action-requires : goal.action-requires
-action-requires c =
-    let b = board_of c.args.tracks c.args.present c.args.keys.now c.args.infos.now c.args.n c.args.clock.0 c.args.held in
-    let v = valid b _ (sym c.unbroken.ensures ∙ c.if-not-unbroken.false) (told (found_in _) c.ranges.track c.found.ensures c.in-In.is) in
-    (v.mode, low _ _ (sym c.grid.ensures ∙ c.in-Goes.is))
+pub bounds-b-at : goal.bounds-b-at
+bounds-b-at c = let e : found_in c.args.b.now.present c.args.track ≡ Some c.in_ok-at.field-0 = grind arith in found-below _ _ e
 
-pub stage_change-count-requires : goal.stage_change-count-requires
-stage_change-count-requires c =
-    let b = board_of c.args.tracks c.args.present c.args.keys.now c.args.infos.now c.args.n c.args.clock.0 c.args.held in
-    record {
-      record_width_in_bounds = omega (arith, c.if-capacity-held-2.false);
-      valid = valid b _ (sym c.unbroken.ensures ∙ c.if-not-unbroken.false) (told (found_in _) c.ranges.track c.found.ensures c.in-In.is);
-      bound = low _ _ (sym c.grid.ensures ∙ c.in-Goes.is);
-    }
+pub overflow_cast-at-2 : goal.overflow_cast-at-2
+overflow_cast-at-2 c =
+    let p : Passed c.args.b.now c.args.track c.args.call c.in_ok-at.field-0 c.in_ok-new.new =
+    record { kept = grind arith; found = grind arith; goes = grind arith } in
+    omega (arith, found-below _ _ p.found)
 
--- ---- the ways out: the answer, and that the track that may change is one of the sixteen
+pub change_record-requires : goal.change_record-requires
+change_record-requires c =
+    let p : Passed c.args.b.now c.args.track c.args.call c.in_ok-at.field-0 c.in_ok-new.new =
+    record { kept = grind arith; found = grind arith; goes = grind arith } in
+    record { valid = valid _ _ _ p; bound = low _ _ _ p }
 
-pub returns-then-not-unbroken : goal.returns-then-not-unbroken
+-- ---- the ways out
+
+pub returns-in_err-checked : goal.returns-in_err-checked
 unfolding mode_result
-returns-then-not-unbroken c = (
-  result-gives _ _ _ _ (follows-declined 3 _ _ (cond_no _ _ (sym c.unbroken.ensures ∙ c.if-not-unbroken.true) refl)
-      (unmoved 3 _ c.declined.ensures)),
-  omega (arith, ap (λ (r : ModeChange). r.at) c.declined.ensures),
-)
+returns-in_err-checked c = refused-gives _ _ _ _ refusal.Value (grind arith) (grind arith)
 
 pub returns-then-capacity-held : goal.returns-then-capacity-held
 unfolding mode_result
-returns-then-capacity-held c = (
-  result-gives _ _ _ _ (follows-declined 7 _ _
-      (cond_yes _ _ (sym c.unbroken.ensures ∙ c.if-not-unbroken.false) (cond_no _ _ (lt-leb _ _ c.if-capacity-held.true) refl))
-      (unmoved 7 _ c.declined-then-capacity-held.ensures)),
-  omega (arith, ap (λ (r : ModeChange). r.at) c.declined-then-capacity-held.ensures),
-)
+returns-then-capacity-held c = refused-gives _ _ _ _ refusal.Capacity (grind arith) refl
+
+pub returns-in_err-at : goal.returns-in_err-at
+unfolding mode_result
+returns-in_err-at c = refused-gives _ _ _ _ refusal.Track (grind arith) (grind arith)
+
+pub returns-in_err-new : goal.returns-in_err-new
+unfolding mode_result decided
+returns-in_err-new c = refused-gives _ _ _ _ refusal.Mode (grind arith) (grind arith)
 
 pub returns-in_default : goal.returns-in_default
-unfolding mode_result
-returns-in_default c = (
-  result-gives _ _ _ _ (follows-declined 1 _ _
-      (cond_yes _ _ (sym c.unbroken.ensures ∙ c.if-not-unbroken.false) (cond_yes _ _ (le-leb _ _ c.if-capacity-held.false)
-      (natural-out _ _ _ (told (found_in _) c.ranges.track c.found.ensures c.in_default.is) refl)))
-      (unmoved 1 _ c.declined-in_default.ensures)),
-  omega (arith, ap (λ (r : ModeChange). r.at) c.declined-in_default.ensures),
-)
-
-pub returns-in_default-grid : goal.returns-in_default-grid
-unfolding mode_result decided
-returns-in_default-grid c = (
-  result-gives _ _ _ _ (follows-declined 2 _ _
-      (cond_yes _ _ (sym c.unbroken.ensures ∙ c.if-not-unbroken.false) (cond_yes _ _ (le-leb _ _ c.if-capacity-held.false)
-      (natural-take _ _ _ (told (found_in _) c.ranges.track c.found.ensures c.in-In.is)
-      (ap (decided _ _ _) (sym (sym c.grid.ensures ∙ c.in_default-grid.is))))))
-      (unmoved 2 _ c.declined-in_default-grid.ensures)),
-  omega (arith, ap (λ (r : ModeChange). r.at) c.declined-in_default-grid.ensures),
-)
-
-pub returns-then-action-eq0 : goal.returns-then-action-eq0
-returns-then-action-eq0 c =
-    let b = board_of c.args.tracks c.args.present c.args.keys.now c.args.infos.now c.args.n c.args.clock.0 c.args.held in
-    let e = told (found_in _) c.ranges.track c.found.ensures c.in-In.is in (
-      result-gives b _ _ _ (follows-silent b _ _ _
-          (chosen b _ _ _ (sym c.unbroken.ensures ∙ c.if-not-unbroken.false) c.if-capacity-held.false e (sym c.grid.ensures ∙ c.in-Goes.is))
-          (sym c.action.ensures ∙ c.if-action-eq0.true) c.if-capacity-held.false (changed-with b _ _ c.entered-after.ensures)),
-      found-below _ _ e,
+returns-in_default c =
+    let b = c.args.b.now in
+    let p : Passed b c.args.track c.args.call c.in_ok-at.field-0 c.in_ok-new.new =
+    record { kept = grind arith; found = grind arith; goes = grind arith } in (
+      result-gives b _ _ _
+          (follows-silent b _ _ _ (chosen b _ _ p _ c.if-capacity-held.false) (sym c.change_record.ensures ∙ ap listed c.in_default.is) c.if-capacity-held.false
+          (changed-with b _ _ c.entered-after.ensures)),
+      found-below _ _ p.found,
     )
 
 pub returns-then-capacity-held-2 : goal.returns-then-capacity-held-2
 returns-then-capacity-held-2 c =
-    let e = told (found_in _) c.ranges.track c.found.ensures c.in-In.is in (
-      result-gives _ _ _ _ (follows-full _ _ _ _
-          (chosen _ _ _ _ (sym c.unbroken.ensures ∙ c.if-not-unbroken.false) c.if-capacity-held.false e (sym c.grid.ensures ∙ c.in-Goes.is))
-          (λ z. c.if-action-eq0.false (c.action.ensures ∙ z)) c.if-capacity-held-2.true (unmoved 8 _ c.declined-then-capacity-held-2.ensures)),
-      omega (arith, ap (λ (r : ModeChange). r.at) c.declined-then-capacity-held-2.ensures),
-    )
+    let b = c.args.b.now in
+    let p : Passed b c.args.track c.args.call c.in_ok-at.field-0 c.in_ok-new.new =
+    record { kept = grind arith; found = grind arith; goes = grind arith } in
+    refused-gives _ _ _ _ refusal.Room
+    (sym (full-declines b _ _ _ (sym c.change_record.ensures ∙ ap listed c.in-Some.is) c.if-capacity-held-2.true ∙ chosen b _ _ p _ c.if-capacity-held.false)) refl
 
 pub returns : goal.returns
 returns c =
-    let b = board_of c.args.tracks c.args.present c.args.keys.now c.args.infos.now c.args.n c.args.clock.0 c.args.held in
-    let e = told (found_in _) c.ranges.track c.found.ensures c.in-In.is in (
-      result-gives b _ _ _ (follows-noted b _ _ _
-          (chosen b _ _ _ (sym c.unbroken.ensures ∙ c.if-not-unbroken.false) c.if-capacity-held.false e (sym c.grid.ensures ∙ c.in-Goes.is))
-          (λ z. c.if-action-eq0.false (c.action.ensures ∙ z)) c.if-capacity-held-2.false (changed-with b _ _ c.entered-after.ensures)
-          c.stage_change-count.ensures.count c.stage_change-count.ensures.bytes),
-      found-below _ _ e,
+    let b = c.args.b.now in
+    let p : Passed b c.args.track c.args.call c.in_ok-at.field-0 c.in_ok-new.new =
+    record { kept = grind arith; found = grind arith; goes = grind arith } in (
+      result-gives b _ _ _
+          (follows-noted b _ _ _ (chosen b _ _ p _ c.if-capacity-held.false) (sym c.change_record.ensures ∙ ap listed c.in-Some.is) c.if-capacity-held-2.false
+          (changed-with b _ _ c.entered-after.ensures) refl c.put_record.ensures),
+      found-below _ _ p.found,
     )

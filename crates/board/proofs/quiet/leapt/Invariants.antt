@@ -1,17 +1,13 @@
-use Prim.Native.Nat.{◌<◌}
 use Rattle.board.specs.Quiet.{Leapable, leap_into}
 use Rattle.board.specs.Tick.{members}
-use lib.Count.{ones}
 use lib.ListN.{length}
 use mathlib.Core.Path.{◌≡◌}
 use Rattle.board.specs.Points.{track_count}
 use Rattle.board.proofs.quiet.leapt.Given as goal
 
-abbrev pub invariant-loop-left : goal.invariant-loop-left
-invariant-loop-left l = (l.left < 65536)
-    × Leapable l.tracks (members l.left)
-    × (leap_into l.k.0 l.tracks (members l.left) l.next ≡ leap_into l.k.0 l.tracks (members l.word) l.tracks)
+abbrev pub invariant-loop-i : goal.invariant-loop-i
+invariant-loop-i l = (goal.iterator-loop-i).can_next l.i-iterator
+    × (goal.iterator-loop-i).is_finite l.i-iterator
+    × Leapable l.tracks (members l.i-iterator.0)
+    × (leap_into l.k.0 l.tracks (members l.i-iterator.0) l.next ≡ leap_into l.k.0 l.tracks (members l.word) l.tracks)
     × (length l.next ≡ track_count)
-
-abbrev pub decreases-loop-left : goal.decreases-loop-left
-decreases-loop-left l = ones l.left

@@ -6,8 +6,5 @@ use Rattle.board.proofs.quiet.quiet.Goals as goal
 pub returns-then-led-eq0 : goal.returns-then-led-eq0
 returns-then-led-eq0 c = fewest-alone _ _ _ _ _ _ (no-members _ (omega (arith, c.if-led-eq0.true))) c.quiet_players-stretch.ensures
 
-pub steady_followers-requires : goal.steady_followers-requires
-steady_followers-requires c = record { each = c.requires.each; most_le_clock_end = c.quiet_players-stretch.ensures.small }
-
 pub returns : goal.returns
 returns c = fewest-both _ _ _ _ _ _ _ c.quiet_players-stretch.ensures c.steady_followers.ensures

@@ -1,5 +1,6 @@
 use Prim.Native.Nat.{ℕ}
 use Rattle.board.proofs.row.Encoding.{track-numbers}
+use Rattle.std.proofs.lemmas.Grind.{same_number_lists}
 use Rattle.board.specs.Call.{track_values}
 use Rattle.board.specs.Log.{write_at}
 use Rattle.board.specs.Row.{cells_at, master_at, thresholds_at, events_at, rate_at}
@@ -8,31 +9,26 @@ use borrow.Author.Rules.{rules}
 use lib.ListN.{length}
 use mathlib.Core.List.{List, [], ◌∷◌}
 use mathlib.Core.Path.{◌≡◌, ◌∙◌, ap}
+use native.Mathlib.Omega.{arith}
 use Rattle.board.proofs.row.track_row.Goals as goal
 
-cells-long : (c : goal.After-events-1) → length c.args.t.actions ≡ cell_count
-cells-long c = search rules
-
-thresholds-long : (c : goal.After-events-1) → length c.args.t.thresholds ≡ threshold_count
-thresholds-long c = search rules
-
-events-long : (c : goal.After-events-1) → length c.args.t.events ≡ threshold_count
-events-long c = search rules
-
-pub track_head-requires : goal.track_head-requires
-track_head-requires c = search rules
-
 pub returns : goal.returns
-returns c = let cells : length c.args.t.actions ≡ cell_count = cells-long c.before.before.before.before.before.before.before in
-    let limits : length c.args.t.thresholds ≡ threshold_count = thresholds-long c.before.before.before.before.before.before.before in
-    let events : length c.args.t.events ≡ threshold_count = events-long c.before.before.before.before.before.before.before in
+returns c =
+    let cells : length c.args.t.actions ≡ cell_count = search rules in
+    let limits : length c.args.t.thresholds ≡ threshold_count = search rules in
+    let events : length c.args.t.events ≡ threshold_count = search rules in
+    let one : c.map.result ≡ c.args.t.actions =
+    same_number_lists _ _ (c.map.ensures.items.long ∙ search rules) (λ k h. let e = c.map.ensures.items.at k 0 0 (omega (arith, c.map.ensures.items.long)) in search rules) in
+    let two : c.map-2.result ≡ c.args.t.thresholds =
+    same_number_lists _ _ (c.map-2.ensures.items.long ∙ search rules) (λ k h. let e = c.map-2.ensures.items.at k 0 0 (omega (arith, c.map-2.ensures.items.long)) in search rules) in
+    let three : c.map-3.result ≡ c.args.t.events =
+    same_number_lists _ _ (c.map-3.ensures.items.long ∙ search rules) (λ k h. let e = c.map-3.ensures.items.at k 0 0 (omega (arith, c.map-3.ensures.items.long)) in search rules) in
     let named : List ℕ = c.args.t.master ∷ c.args.t.band ∷ [] in
-    let ended : List ℕ → List ℕ = λ r. write_at (write_at r events_at c.args.t.events) rate_at (c.args.t.steps ∷ c.args.t.ticks ∷ c.args.t.remainder ∷ []) in
-    c.with_rate.ensures
-    ∙ ap (λ (r : List ℕ). write_at r rate_at (c.args.t.steps ∷ c.args.t.ticks ∷ c.args.t.remainder ∷ []))
-    (c.with_four-told.ensures ∙ ap (write_at c.with_four-limited.result events_at) c.widened.ensures)
-    ∙ ap ended c.with_four-limited.ensures
-    ∙ ap (λ (r : List ℕ). ended (write_at r thresholds_at c.args.t.thresholds)) c.with_band-named.ensures
-    ∙ ap (λ (r : List ℕ). ended (write_at (write_at r master_at named) thresholds_at c.args.t.thresholds)) c.with_cells-head.ensures
-    ∙ ap (λ (r : List ℕ). ended (write_at (write_at (write_at r cells_at c.args.t.actions) master_at named) thresholds_at c.args.t.thresholds)) c.track_head.ensures
+    let rate : List ℕ = c.args.t.steps ∷ c.args.t.ticks ∷ c.args.t.remainder ∷ [] in
+    c.put_row-5.ensures
+    ∙ ap (λ (r : List ℕ). write_at r rate_at rate) c.put_row-4.ensures
+    ∙ ap (λ (r : List ℕ). write_at (write_at r events_at c.map-3.result) rate_at rate) c.put_row-3.ensures
+    ∙ ap (λ (r : List ℕ). write_at (write_at (write_at r thresholds_at c.map-2.result) events_at c.map-3.result) rate_at rate) c.put_row-2.ensures
+    ∙ ap (λ (r : List ℕ). write_at (write_at (write_at (write_at r master_at named) thresholds_at c.map-2.result) events_at c.map-3.result) rate_at rate) c.put_row.ensures
+    ∙ (λ i. write_at (write_at (write_at (write_at (write_at (c.track_head-row.ensures i) cells_at (one i)) master_at named) thresholds_at (two i)) events_at (three i)) rate_at rate)
     ∙ track-numbers (track_values c.args.t) cells limits events

@@ -1,21 +1,21 @@
-use Rattle.board.proofs.rules.Passing.{tracks-next, tracks-bad, tracks-end, length-mapped}
-use borrow.Author.Rules.{rules}
-use lib.ListN.{length}
-use mathlib.Core.Path.{◌≡◌, refl, ◌∙◌}
+use Rattle.board.proofs.rules.Passing.{tracks-next, tracks-bad, tracks-end}
+use mathlib.Core.Path.{◌∙◌, sym}
 use native.Mathlib.Omega.{arith}
 use Rattle.board.proofs.rules.tracks_kept.Goals as goal
+use Rattle.board.proofs.rules.tracks_kept.Goals.{else-word-eq1-via-then-word-eq1+else-not-track_kept, else-word-eq1-via-else-word-eq1}
 
-long : (c : goal.Start) → length c.args.tracks ≡ 16
-long c = search (length-mapped, rules)
-
-pub loop-i-init : goal.loop-i-init
-loop-i-init c = (search rules, refl)
-
-pub returns-then-not-kept_if : goal.returns-then-not-kept_if
-returns-then-not-kept_if c = tracks-bad c.args.present c.loop-i.word c.args.tracks c.loop-i.i c.args.clock (omega (arith, long c.before.before.before.before.before)) c.kept_if.ensures c.if-not-kept_if.true ∙ c.loop-i.invariant.1
+pub returns-then-not-track_kept : goal.returns-then-not-track_kept
+returns-then-not-track_kept c =
+    tracks-bad _ _ _ _ _ (omega arith) c.if-word-eq1.true (sym c.track_kept.ensures ∙ c.if-not-track_kept.true) ∙ c.loop-i.invariant
 
 pub loop-i-preserved : goal.loop-i-preserved
-loop-i-preserved c = (search rules, tracks-next c.args.present c.loop-i.word c.args.tracks c.loop-i.i c.args.clock (omega (arith, long c.before.before.before.before.before)) c.kept_if.ensures c.if-not-kept_if.false ∙ c.loop-i.invariant.1)
+loop-i-preserved c =
+    tracks-next _ _ _ _ _ (omega arith)
+    (elim c.else-word-eq1.branch [
+      | else-word-eq1-via-then-word-eq1+else-not-track_kept w ↦ λ e. sym w.track_kept.ensures ∙ w.if-not-track_kept.false
+      | else-word-eq1-via-else-word-eq1 w ↦ λ e. absurd (w.if-word-eq1.false e)
+    ])
+    ∙ c.loop-i.invariant
 
 pub returns : goal.returns
-returns c = tracks-end c.args.present c.loop-i.word c.args.tracks c.loop-i.i c.args.clock (omega (arith, long c.before.before)) ∙ c.loop-i.invariant.1
+returns c = tracks-end _ _ _ c.loop-i.i _ (omega arith) ∙ c.loop-i.invariant

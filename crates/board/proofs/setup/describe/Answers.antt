@@ -1,78 +1,71 @@
+use Rattle.std.specs.Prelude.{Option, Some}
 use Prim.Native.Nat.{ℕ}
-use Rattle.board.specs.Setup.{described_by}
-use Rattle.track.proofs.Numbers.{told, natural-in, natural-out, natural-take, place_out, place-take}
-use Rattle.track.proofs.Tests.{cond_yes, cond_no}
-use Rattle.track.specs.Number.{natural_of, coordinate_of, within}
-use Rattle.track.specs.declared.Track.{Track}
-use Rattle.track.specs.declared.number.Natural.{Natural}
-use Rattle.track.specs.declared.number.Place.{Place}
 use lib.IntN.{ℤ}
-use mathlib.Core.Path.{◌∙◌, sym, refl}
-use mir.Facts.{Fits-below}
+use mathlib.Core.Path.{◌≡◌, ◌∙◌, refl, sym}
+use native.Mathlib.Omega.{arith}
+use Rattle.board.specs.Setup.{described_by, allowed_only, point_with}
+use Rattle.track.proofs.Numbers.{natural-in, told}
+use Rattle.track.specs.Number.{natural_of, coordinate_of, within}
+use Rattle.track.specs.declared.Coordinate.{Coordinate}
+use Rattle.track.specs.declared.Track.{Track}
+use Rattle.board.specs.declared.points.Point.{Point}
 use Rattle.board.proofs.setup.describe.Goals as goal
 
-abbrev place : Track → ℤ → Place
-place t z = within t.min.0 t.max.0 (coordinate_of z)
-
-abbrev number : ℕ → ℕ → ℤ → Natural
-number least most z = natural_of z least most
-
-pub returns-in_default : goal.returns-in_default
+pub returns-in_err-ok : goal.returns-in_err-ok
 unfolding described_by
-returns-in_default c = place_out _ _ _ (told (place c.args.owner) c.ranges.position c.between.ensures c.in_default.is) refl
+returns-in_err-ok c = grind arith
 
-pub returns-in_default-in_range : goal.returns-in_default-in_range
+pub returns-in_err-in_range : goal.returns-in_err-in_range
 unfolding described_by
-returns-in_default-in_range c = place-take _ _ _ (told (place c.args.owner) c.ranges.position c.between.ensures c.in-At.is)
-    (natural-out _ _ _ (told (number 1 255) c.ranges.event c.in_range.ensures c.in_default-in_range.is) refl)
+returns-in_err-in_range c = grind arith
 
-pub returns-in_default-in_range-2 : goal.returns-in_default-in_range-2
+pub returns-in_err-in_range-2 : goal.returns-in_err-in_range-2
 unfolding described_by
-returns-in_default-in_range-2 c = place-take _ _ _ (told (place c.args.owner) c.ranges.position c.between.ensures c.in-At.is)
-    (natural-take _ _ _ (told (number 1 255) c.ranges.event c.in_range.ensures c.in-In.is)
-    (natural-out _ _ _ (told (number 0 1) c.ranges.wait c.in_range-2.ensures c.in_default-in_range-2.is) refl))
+returns-in_err-in_range-2 c = grind arith
 
-pub returns-in_default-in_range-3 : goal.returns-in_default-in_range-3
+pub returns-in_err-in_range-3 : goal.returns-in_err-in_range-3
 unfolding described_by
-returns-in_default-in_range-3 c = place-take _ _ _ (told (place c.args.owner) c.ranges.position c.between.ensures c.in-At.is)
-    (natural-take _ _ _ (told (number 1 255) c.ranges.event c.in_range.ensures c.in-In.is)
-    (natural-take _ _ _ (told (number 0 1) c.ranges.wait c.in_range-2.ensures c.in-In-in_range.is)
-    (natural-out _ _ _ (told (number 0 4) c.ranges.command c.in_range-3.ensures c.in_default-in_range-3.is) refl)))
+returns-in_err-in_range-3 c = grind arith
 
-pub returns-in_default-in_range-4 : goal.returns-in_default-in_range-4
+pub returns-in_err-in_range-4 : goal.returns-in_err-in_range-4
 unfolding described_by
-returns-in_default-in_range-4 c = place-take _ _ _ (told (place c.args.owner) c.ranges.position c.between.ensures c.in-At.is)
-    (natural-take _ _ _ (told (number 1 255) c.ranges.event c.in_range.ensures c.in-In.is)
-    (natural-take _ _ _ (told (number 0 1) c.ranges.wait c.in_range-2.ensures c.in-In-in_range.is)
-    (natural-take _ _ _ (told (number 0 4) c.ranges.command c.in_range-3.ensures c.in-In-in_range-2.is)
-    (natural-out _ _ _ (told (number 0 15) c.ranges.target c.in_range-4.ensures c.in_default-in_range-4.is) refl))))
+returns-in_err-in_range-4 c = grind arith
 
-pub overflow_cast-p : goal.overflow_cast-p
-overflow_cast-p c = Fits-below tt (natural-in _ 1 255 (told (number 1 255) c.ranges.event c.in_range.ensures c.in-In.is)).2
+abbrev read : ℕ → ℕ → ℤ → Option ℕ
+read least most z = natural_of z least most
 
-pub overflow_cast-p-2 : goal.overflow_cast-p-2
-overflow_cast-p-2 c = Fits-below tt (natural-in _ 0 1 (told (number 0 1) c.ranges.wait c.in_range-2.ensures c.in-In-in_range.is)).2
-
-pub overflow_cast-p-3 : goal.overflow_cast-p-3
-overflow_cast-p-3 c = Fits-below tt (natural-in _ 0 4 (told (number 0 4) c.ranges.command c.in_range-3.ensures c.in-In-in_range-2.is)).2
-
-pub overflow_cast-p-4 : goal.overflow_cast-p-4
-overflow_cast-p-4 c = Fits-below tt (natural-in _ 0 15 (told (number 0 15) c.ranges.target c.in_range-4.ensures c.in-In-in_range-3.is)).2
+-- the point that is described where each number is in its range
+parts : (present i : ℕ) (owner : Track) (position event wait command target : ℤ) {l : Coordinate} {e w k g : ℕ} →
+    within owner.min.0 owner.max.0 (coordinate_of position) ≡ Some l → read 1 255 event ≡ Some e → read 0 1 wait ≡ Some w →
+    read 0 4 command ≡ Some k → read 0 15 target ≡ Some g →
+    {r : Option Point} → r ≡ allowed_only present (point_with i l e w k g) → r ≡ described_by present i owner position event wait command target
+unfolding described_by
+parts present i owner _ _ _ _ _ l e w k g q = q ∙ simp (l, e, w, k, g)
 
 pub returns-then-allowed : goal.returns-then-allowed
-unfolding described_by
-returns-then-allowed c = place-take _ _ _ (told (place c.args.owner) c.ranges.position c.between.ensures c.in-At.is)
-    (natural-take _ _ _ (told (number 1 255) c.ranges.event c.in_range.ensures c.in-In.is)
-    (natural-take _ _ _ (told (number 0 1) c.ranges.wait c.in_range-2.ensures c.in-In-in_range.is)
-    (natural-take _ _ _ (told (number 0 4) c.ranges.command c.in_range-3.ensures c.in-In-in_range-2.is)
-    (natural-take _ _ _ (told (number 0 15) c.ranges.target c.in_range-4.ensures c.in-In-in_range-3.is)
-    (cond_yes _ _ (sym c.allowed.ensures ∙ c.if-allowed.true) refl)))))
+returns-then-allowed c =
+    let l : within c.args.owner.min.0 c.args.owner.max.0 (coordinate_of c.args.position) ≡ Some c.in_ok-ok.field-0 = grind arith in
+    parts _ _ c.args.owner _ _ _ _ _ l (told (read 1 255) c.ranges.event (c.in_ok-in_range.ensures) refl)
+    (told (read 0 1) c.ranges.wait (c.in_ok-in_range-2.ensures) refl)
+    (told (read 0 4) c.ranges.command (c.in_ok-in_range-3.ensures) refl)
+    (told (read 0 15) c.ranges.target (c.in_ok-in_range-4.ensures) refl) (simp (sym c.allowed.ensures, c.if-allowed.true))
 
-pub returns : goal.returns
-unfolding described_by
-returns c = place-take _ _ _ (told (place c.args.owner) c.ranges.position c.between.ensures c.in-At.is)
-    (natural-take _ _ _ (told (number 1 255) c.ranges.event c.in_range.ensures c.in-In.is)
-    (natural-take _ _ _ (told (number 0 1) c.ranges.wait c.in_range-2.ensures c.in-In-in_range.is)
-    (natural-take _ _ _ (told (number 0 4) c.ranges.command c.in_range-3.ensures c.in-In-in_range-2.is)
-    (natural-take _ _ _ (told (number 0 15) c.ranges.target c.in_range-4.ensures c.in-In-in_range-3.is)
-    (cond_no _ _ (sym c.allowed.ensures ∙ c.if-allowed.false) refl)))))
+pub returns-else-allowed : goal.returns-else-allowed
+returns-else-allowed c =
+    let l : within c.args.owner.min.0 c.args.owner.max.0 (coordinate_of c.args.position) ≡ Some c.in_ok-ok.field-0 = grind arith in
+    parts _ _ c.args.owner _ _ _ _ _ l (told (read 1 255) c.ranges.event (c.in_ok-in_range.ensures) refl)
+    (told (read 0 1) c.ranges.wait (c.in_ok-in_range-2.ensures) refl)
+    (told (read 0 4) c.ranges.command (c.in_ok-in_range-3.ensures) refl)
+    (told (read 0 15) c.ranges.target (c.in_ok-in_range-4.ensures) refl) (simp (sym c.allowed.ensures, c.if-allowed.false))
+
+pub overflow_cast-p : goal.overflow_cast-p
+overflow_cast-p c = grind (arith, natural-in)
+
+pub overflow_cast-p-2 : goal.overflow_cast-p-2
+overflow_cast-p-2 c = grind (arith, natural-in)
+
+pub overflow_cast-p-3 : goal.overflow_cast-p-3
+overflow_cast-p-3 c = grind (arith, natural-in)
+
+pub overflow_cast-p-4 : goal.overflow_cast-p-4
+overflow_cast-p-4 c = grind (arith, natural-in)

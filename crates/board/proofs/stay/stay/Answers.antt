@@ -12,22 +12,22 @@ gaining-requires c = record {
   pace = omega (arith, c.requires.asked_2);
   low = omega (arith, c.requires.asked);
   high = omega (arith, c.requires.asked);
-  slow = ⊎_elim inl (λ (h : c.args.h < c.args.lo + c.args.lo). inr (omega arith)) c.requires.asked_2.slow;
+  slow = ⊎_elim inl (λ (h : c.args.h < c.args.range.least + c.args.range.least). inr (omega arith)) c.requires.asked_2.slow;
 }
 
 pub returns-then-g-h : goal.returns-then-g-h
 returns-then-g-h c = stays-second _ _ _ _ _ _ _ _ c.if-g-h.true c.gaining.ensures
 
-pub gaining-requires-2 : goal.gaining-requires-2
-gaining-requires-2 c = record {
+pub gaining-requires-else-g-h : goal.gaining-requires-else-g-h
+gaining-requires-else-g-h c = record {
   first = omega (arith, c.requires.asked);
   second = omega (arith, c.requires.asked);
   width = omega (arith, c.requires.asked);
   pace = omega (arith, c.requires.asked);
   low = omega (arith, c.requires.asked);
   high = omega (arith, c.requires.asked);
-  slow = ⊎_elim inl (λ (h : c.args.g < c.args.lo + c.args.lo). inr (omega arith)) c.requires.asked.slow;
+  slow = ⊎_elim inl (λ (h : c.args.g < c.args.range.least + c.args.range.least). inr (omega arith)) c.requires.asked.slow;
 }
 
-pub returns : goal.returns
-returns c = stays-first _ _ _ _ _ _ _ _ c.if-g-h.false c.gaining-2.ensures
+pub returns-else-g-h : goal.returns-else-g-h
+returns-else-g-h c = stays-first _ _ _ _ _ _ _ _ c.if-g-h.false c.gaining-else-g-h.ensures

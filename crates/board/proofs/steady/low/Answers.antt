@@ -15,5 +15,5 @@ bounds-thresholds-k c = let l : length c.args.thresholds ≡ 4 = search rules in
 pub overflow_add-result : goal.overflow_add-result
 overflow_add-result c = let h = row_small _ _ c.requires c.if-k-eq0.false in omega arith
 
-pub returns : goal.returns
-returns c = low-some _ _ c.requires c.if-k-eq0.false
+pub returns-else-k-eq0 : goal.returns-else-k-eq0
+returns-else-k-eq0 c = low-some _ _ c.requires c.if-k-eq0.false

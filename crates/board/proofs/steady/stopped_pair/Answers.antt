@@ -4,5 +4,5 @@ use Rattle.board.proofs.steady.stopped_pair.Goals as goal
 pub returns-then-t-eq0 : goal.returns-then-t-eq0
 returns-then-t-eq0 c = stopped-ever _ _ c.requires c.if-t-eq0.true
 
-pub returns : goal.returns
-returns c = stopped-now _ _ c.requires c.if-t-eq0.false
+pub returns-else-t-eq0 : goal.returns-else-t-eq0
+returns-else-t-eq0 c = stopped-now _ _ c.requires c.if-t-eq0.false

@@ -1,49 +1,53 @@
-use Prim.Native.Nat.{◌+◌}
-use Rattle.script.proofs.grammar.Fields.{up-within}
-use Rattle.script.proofs.grammar.Rows.{read-start, row-short, row-bad, row_long, row_done, row_next, zeros-next, row-none, row-some}
-use Rattle.script.specs.declared.number.Number.TheVariants.{Value}
-use borrow.Author.Rules.{rules}
-use lib.ListN.{take, length-set}
-use mathlib.Core.Path.{refl, sym, ap, ◌∙◌}
+use Prim.Native.Nat.{ℕ}
+use mathlib.Core.Path.{ap, sym, ◌∙◌}
+use native.Mathlib.Omega.{arith}
+use lib.Dec.{eqb}
 use mir.Facts.{to_z-of_z}
 use mir.Syntax.{w64}
-use mir.Val.{SFits, to_z, of_z}
-use native.Mathlib.Omega.{arith}
+use mir.Val.{SFits}
+use Rattle.std.proofs.Common.{Some}
+use borrow.Author.Rules.{rules}
+use Rattle.std.proofs.lemmas.List.Sorted.{answers_always}
+use Rattle.script.specs.Grammar.{fields_of}
+use Rattle.script.proofs.grammar.Fields.{field-next, field-left, at-some, at-none}
+use Rattle.script.proofs.grammar.Rows.{row-unknown, reading-start, row-short, row-bad, row_next, row_long, row_done}
 use Rattle.script.proofs.grammar.read_row.Goals as goal
 
-pub loop-n-init : goal.loop-n-init
-loop-n-init c = (omega arith, omega arith, omega arith, refl, refl, read-start _ _)
+pub returns-in_err-form-clause-row : goal.returns-in_err-form-clause-row
+returns-in_err-form-clause-row c =
+    let s = c.in_ok-next.ensures.steps in
+    let first = field-next _ _ _ _ s.1 (s.2 (λ (b : ℕ). eqb b 44) (answers_always _ _ _ (λ f a r g h. search rules))).1 in
+    c.from_residual-in_err-form.ensures ∙ row-unknown _ (ap fields_of (sym c.split-fields.ensures.rest) ∙ first) c.in_err-form.ensures.form
 
-pub returns-then-text-at : goal.returns-then-text-at
-returns-then-text-at c = row-none c.no_row.result _ c.no_row.ensures
-    (sym (row-short _ c.loop-n.at _ c.loop-n.n (take c.loop-n.n c.loop-n.numbers) (omega arith) (omega arith)) ∙ c.loop-n.invariant.5)
+pub loop-number-init : goal.loop-number-init
+loop-number-init c =
+    let s = c.in_ok-next.ensures.steps in
+    let first = field-next _ _ _ _ s.1 (s.2 (λ (b : ℕ). eqb b 44) (answers_always _ _ _ (λ f a r g h. search rules))).1 in
+    reading-start _ (ap fields_of (sym c.split-fields.ensures.rest) ∙ first) c.in_ok-form.form _ c.in_ok-form.ensures.form (search rules)
 
-pub slice_bounds-read_number-end : goal.slice_bounds-read_number-end
-slice_bounds-read_number-end c = omega (arith, c.comma-end.ensures, up-within 44 c.args.text.now (c.loop-n.at + 1) (omega arith))
+pub returns-in_err-next-2-clause-row : goal.returns-in_err-next-2-clause-row
+returns-in_err-next-2-clause-row c = c.from_residual-in_err-next-2.ensures ∙ row-short _ c.loop-number.invariant (omega (arith, c.loop-number.invariant.long)) c.in_err-next-2.ensures.steps.0
 
-pub returns-in_default : goal.returns-in_default
-returns-in_default c = row-none c.no_row-in_default.result _ c.no_row-in_default.ensures
-    (sym
-    (row-bad c.args.text.now c.loop-n.at c.args.count c.loop-n.n (take c.loop-n.n c.loop-n.numbers) c.comma-end.result c.read_number.result
-    (omega arith) (omega arith) c.comma-end.ensures c.read_number.ensures c.in_default.is)
-    ∙ c.loop-n.invariant.5)
+pub returns-in_err-number-clause-row : goal.returns-in_err-number-clause-row
+returns-in_err-number-clause-row c =
+    let s = c.in_ok-next-2.ensures.steps in
+    let next = field-left _ _ _ _ _ s.0 s.1 (s.2 (λ (b : ℕ). eqb b 44) (answers_always _ _ _ (λ f a r g h. search rules))).1 in
+    c.from_residual-in_err-number.ensures ∙ row-bad _ _ c.loop-number.invariant (omega (arith, c.loop-number.invariant.long)) next c.in_err-number.ensures
 
-pub loop-n-preserved : goal.loop-n-preserved
-loop-n-preserved c = let f : SFits w64 c.in-Value.v = search rules in (
-  omega (arith, c.comma-end.ensures, up-within 44 c.args.text.now (c.loop-n.at + 1) (omega arith)),
-  omega arith,
-  omega arith,
-  length-set c.loop-n.numbers c.loop-n.n _ ∙ c.loop-n.invariant.3,
-  zeros-next c.loop-n.numbers c.loop-n.n _ (omega arith) c.loop-n.invariant.4,
-  row_next c.args.text.now c.loop-n.at c.args.count c.loop-n.n c.loop-n.numbers c.comma-end.result c.read_number.result (to_z w64 (of_z w64 c.in-Value.v)) (omega arith) (omega arith)
-      (omega arith) c.comma-end.ensures c.read_number.ensures (c.in-Value.is ∙ ap Value (sym (to_z-of_z f)))
-      ∙ c.loop-n.invariant.5,
-)
+pub loop-number-preserved : goal.loop-number-preserved
+loop-number-preserved c =
+    let s = c.in_ok-next-2.ensures.steps in
+    let next = field-left _ _ _ _ _ s.0 s.1 (s.2 (λ (b : ℕ). eqb b 44) (answers_always _ _ _ (λ f a r g h. search rules))).1 in
+    let held : SFits w64 c.in_ok-number.field-0 = search rules in
+    row_next _ _ _ c.loop-number.invariant (omega (arith, c.loop-number.invariant.long)) next (ap Some (to_z-of_z held) ∙ c.in_ok-number.ensures)
 
-pub returns-then-at-text : goal.returns-then-at-text
-returns-then-at-text c = row-none c.no_row-then-at-text.result _ c.no_row-then-at-text.ensures
-    (sym (row_long _ c.loop-n.at _ c.loop-n.n (take c.loop-n.n c.loop-n.numbers) (omega arith) (omega arith)) ∙ c.loop-n.invariant.5)
+pub returns-then-is_some-clause-row : goal.returns-then-is_some-clause-row
+returns-then-is_some-clause-row c =
+    let s = at-some _ _ c.next-2.result c.if-is_some.ensures c.next-2.ensures.steps in
+    let next = field-left _ _ _ _ _ s.1.0 s.1.1 (s.1.2 (λ (b : ℕ). eqb b 44) (answers_always _ _ _ (λ f a r g h. search rules))).1 in
+    row_long _ _ c.loop-number.invariant (omega (arith, c.loop-number.invariant.long)) next
 
-pub returns : goal.returns
-returns c = row-some c.loop-n.numbers c.loop-n.n _ c.loop-n.invariant.3 (omega arith) c.loop-n.invariant.4
-    (sym (row_done _ c.loop-n.at _ c.loop-n.n (take c.loop-n.n c.loop-n.numbers) (omega arith) (omega arith)) ∙ c.loop-n.invariant.5)
+pub returns-clause-row : goal.returns-clause-row
+returns-clause-row c =
+    let s = at-none _ _ c.next-2.result c.if-is_some.ensures c.next-2.ensures.steps in
+    row_done _ c.loop-number.invariant (omega (arith, c.loop-number.invariant.long)) c.in_ok-form.ensures.few.1 s.0

@@ -1,13 +1,7 @@
-use Prim.Native.Nat.{◌-◌, ◌≤◌}
-use Rattle.script.proofs.grammar.Rows.{Zeros, read_ahead}
-use Rattle.script.specs.Grammar.{numbers_of, behind}
-use lib.ListN.{length, take, drop}
-use mathlib.Core.Path.{◌≡◌}
+use Rattle.script.specs.Grammar.{fields_of}
+use Rattle.script.proofs.grammar.Fields.{left}
+use Rattle.script.proofs.grammar.Rows.{Reading}
 use Rattle.script.proofs.grammar.read_row.Given as goal
 
-abbrev pub invariant-loop-n : goal.invariant-loop-n
-invariant-loop-n l = (l.at ≤ length l.text) × (l.n ≤ l.count) × (l.count ≤ 6) × (length l.numbers ≡ 6) × Zeros l.numbers l.n
-    × (read_ahead (take l.n l.numbers) (numbers_of (l.count - l.n) (behind (drop l.at l.text))) ≡ numbers_of l.count (behind (drop l.first l.text)))
-
-abbrev pub decreases-loop-n : goal.decreases-loop-n
-decreases-loop-n l = l.count - l.n
+abbrev pub invariant-loop-number : goal.invariant-loop-number
+invariant-loop-number l = Reading l.form (fields_of l.text) l.number-items l.number-index (left l.fields.done l.fields.rest.now)

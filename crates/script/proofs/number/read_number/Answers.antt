@@ -1,24 +1,31 @@
-use mathlib.Core.Path.{◌∙◌}
-use mir.Facts.{to_z-of_z}
-use mir.Syntax.{w64}
-use Rattle.script.proofs.number.Digits.{number-none, number-minus-zero, number-minus, number-minus-none, number-plus, number-plus-none}
-use Rattle.script.specs.declared.number.Size.TheVariants.{NoSize}
+use mathlib.Core.Path.{ap, ◌∙◌}
+use native.Mathlib.Omega.{arith}
+use Rattle.std.proofs.Common.{Some}
+use Rattle.script.specs.Number.{positive, negative}
+use Rattle.script.proofs.number.Digits.{no_minus, below_minus, negative-zero, negative-more, held, held_minus}
 use Rattle.script.proofs.number.read_number.Goals as goal
 
-pub returns-then-field-eq0 : goal.returns-then-field-eq0
-returns-then-field-eq0 c = number-none _ NoSize c.if-field-eq0.true
+pub returns-in_err-read_size : goal.returns-in_err-read_size
+returns-in_err-read_size c = c.from_residual.ensures ∙ ap positive c.in_err-read_size.ensures ∙ no_minus c.args.field.now c.in_default.ensures.cases
 
-pub returns-then-n-eq0 : goal.returns-then-n-eq0
-returns-then-n-eq0 c = number-minus-zero _ _ c.in-Of.n c.if-field-eq0.false c.if-field-eq45.true c.read_size.ensures c.in-Of.is c.if-n-eq0.true
+pub returns-in_default : goal.returns-in_default
+returns-in_default c = ap Some (held c.in_ok-read_size.field-0 c.from.result (omega arith) c.from.ensures) ∙ ap positive c.in_ok-read_size.ensures ∙ no_minus c.args.field.now c.in_default.ensures.cases
 
-pub returns-else-n-eq0 : goal.returns-else-n-eq0
-returns-else-n-eq0 c = number-minus c.args.field.now c.read_size.result c.in-Of.n _ c.if-field-eq0.false c.if-field-eq45.true c.read_size.ensures c.in-Of.is c.if-n-eq0.false (to_z-of_z {w = w64} (record { sfits = c.minus.type_inv }) ∙ c.minus.ensures)
+pub returns-in_err-size : goal.returns-in_err-size
+returns-in_err-size c =
+    c.from_residual-in_err-size.ensures
+    ∙ ap negative c.in_err-size.ensures
+    ∙ below_minus c.args.field.now c.in-Some.digits.now c.in-Some.ensures.cases.0 c.in-Some.ensures.cases.1
 
-pub returns-in-NoSize : goal.returns-in-NoSize
-returns-in-NoSize c = number-minus-none _ _ c.if-field-eq0.false c.if-field-eq45.true c.read_size.ensures c.in-NoSize.is
+pub returns-then-size-eq0 : goal.returns-then-size-eq0
+returns-then-size-eq0 c =
+    negative-zero c.in_ok-size.size c.if-size-eq0.true
+    ∙ ap negative c.in_ok-size.ensures
+    ∙ below_minus c.args.field.now c.in-Some.digits.now c.in-Some.ensures.cases.0 c.in-Some.ensures.cases.1
 
-pub returns-in-Of-read_size : goal.returns-in-Of-read_size
-returns-in-Of-read_size c = number-plus c.args.field.now c.read_size-2.result c.in-Of-read_size.n _ c.if-field-eq0.false c.if-field-eq45.false c.read_size-2.ensures c.in-Of-read_size.is (to_z-of_z {w = w64} (record { sfits = c.plus.type_inv }) ∙ c.plus.ensures)
-
-pub returns-in-NoSize-read_size : goal.returns-in-NoSize-read_size
-returns-in-NoSize-read_size c = number-plus-none _ _ c.if-field-eq0.false c.if-field-eq45.false c.read_size-2.ensures c.in-NoSize-read_size.is
+pub returns-else-size-eq0 : goal.returns-else-size-eq0
+returns-else-size-eq0 c =
+    ap Some (held_minus c.in_ok-size.size c.from-else-size-eq0.result (omega arith) c.from-else-size-eq0.ensures)
+    ∙ negative-more c.in_ok-size.size c.if-size-eq0.false
+    ∙ ap negative c.in_ok-size.ensures
+    ∙ below_minus c.args.field.now c.in-Some.digits.now c.in-Some.ensures.cases.0 c.in-Some.ensures.cases.1

@@ -1,31 +1,27 @@
-use lib.ListN.{length}
-use mathlib.Core.Path.{◌≡◌, refl, ◌∙◌}
-use native.Mathlib.Omega.{arith}
-use Rattle.track.proofs.Follows.{zeros-next, zeros-first, zeros-second, zeros-end}
-use borrow.Author.Rules.{rules}
+use Rattle.std.proofs.Common.{rules, tests, nat_eq, drop}
+use Rattle.std.proofs.lemmas.Iterator.{YieldsList-from_slice}
+use Rattle.std.proofs.lemmas.Iterator.Adapters.{YieldsList-from_skip}
+use Rattle.std.proofs.lemmas.Iterator.Search.{all_from_yields_List}
+use Rattle.std.specs.List.{list_all}
+use mathlib.Core.Bool.{true, false}
+use mathlib.Core.Path.{◌≡◌, sym, ◌∙◌}
 use Rattle.track.proofs.follow.zeros_from.Goals as goal
 
-long : (c : goal.Start) → length c.args.thresholds ≡ 4
-long c = search rules
+pub returns-then-all : goal.returns-then-all
+returns-then-all c =
+    let y = rw (← c.skip.ensures.source) at (YieldsList-from_slice {s = c.iter.result} c.args.thresholds c.iter.ensures.rest) in
+    let a = all_from_yields_List (λ x. nat_eq x 0) _ _ c.all.result c.all.ensures.ran
+    (YieldsList-from_skip {s = c.skip.result} c.args.from y c.skip.ensures.count) (λ x b q k. search (rules, tests)) in
+    let z = rw (← c.skip-then-all.ensures.source) at (YieldsList-from_slice {s = c.iter-then-all.result} c.args.events c.iter-then-all.ensures.rest) in
+    let b = all_from_yields_List (λ x. nat_eq x 0) _ _ c.all-then-all.result c.all-then-all.ensures.ran
+    (YieldsList-from_skip {s = c.skip-then-all.result} c.args.from z c.skip-then-all.ensures.count) (λ x b q k. search (rules, tests)) in
+    let only : list_all (λ x. nat_eq x 0) (drop c.args.from c.args.thresholds) ≡ true = sym a ∙ c.if-all.true in
+    b ∙ simp only
 
-long-events : (c : goal.Start) → length c.args.events ≡ 4
-long-events c = search rules
-
-pub loop-k-init : goal.loop-k-init
-loop-k-init c = refl
-
-pub returns-then-thresholds-k-ne0 : goal.returns-then-thresholds-k-ne0
-returns-then-thresholds-k-ne0 c = zeros-first c.args.thresholds c.args.events c.loop-k.k (omega (arith, long c.before.before.before)) (omega (arith, long-events c.before.before.before)) c.if-thresholds-k-ne0.true
-    ∙ c.loop-k.invariant
-
-pub returns-then-events-k-ne0 : goal.returns-then-events-k-ne0
-returns-then-events-k-ne0 c = zeros-second c.args.thresholds c.args.events c.loop-k.k (omega (arith, long c.before.before.before.before)) (omega (arith, long-events c.before.before.before.before)) c.if-events-k-ne0.true
-    ∙ c.loop-k.invariant
-
-pub loop-k-preserved : goal.loop-k-preserved
-loop-k-preserved c = zeros-next c.args.thresholds c.args.events c.loop-k.k (omega (arith, long c.before.before.before.before)) (omega (arith, long-events c.before.before.before.before))
-    c.if-thresholds-k-ne0.false c.if-events-k-ne0.false
-    ∙ c.loop-k.invariant
-
-pub returns : goal.returns
-returns c = zeros-end c.args.thresholds c.args.events c.loop-k.k (omega (arith, long c.before.before)) (omega (arith, long-events c.before.before)) ∙ c.loop-k.invariant
+pub returns-else-all : goal.returns-else-all
+returns-else-all c =
+    let y = rw (← c.skip.ensures.source) at (YieldsList-from_slice {s = c.iter.result} c.args.thresholds c.iter.ensures.rest) in
+    let a = all_from_yields_List (λ x. nat_eq x 0) _ _ c.all.result c.all.ensures.ran
+    (YieldsList-from_skip {s = c.skip.result} c.args.from y c.skip.ensures.count) (λ x b q k. search (rules, tests)) in
+    let only : list_all (λ x. nat_eq x 0) (drop c.args.from c.args.thresholds) ≡ false = sym a ∙ c.if-all.false in
+    c.if-all.false ∙ simp only

@@ -1,22 +1,5 @@
-use Prim.Native.Nat.{◌+◌, ◌-◌}
-use Rattle.board.proofs.points.Rows.{remove-step, remove-done}
-use borrow.Author.Rules.{rules}
-use lib.ListN.{get_or, length-set}
-use lib.Seq.{drop-set-lt}
-use mathlib.Core.Path.{refl, ◌∙◌}
-use native.Mathlib.Omega.{arith}
+use Rattle.board.proofs.points.Rows.{row-removed}
 use Rattle.board.proofs.points.Points.remove_at.Goals as goal
 
-pub loop-j-init : goal.loop-j-init
-loop-j-init c = (c.requires.2, search rules, refl, refl)
-
-pub loop-j-preserved : goal.loop-j-preserved
-loop-j-preserved c = (
-  simp length-set c.loop-j.invariant.0,
-  search rules,
-  remove-step c.loop-j.row c.loop-j.j (omega arith) ∙ c.loop-j.invariant.2,
-  drop-set-lt (c.args.n - 1) c.loop-j.row c.loop-j.j (get_or c.loop-j.row (c.loop-j.j + 1) 0) (omega arith) ∙ c.loop-j.invariant.3,
-)
-
-pub returns : goal.returns
-returns c = record { row_len = c.loop-j.invariant.0; row_after = remove-done c.loop-j.row c.args.row.now c.args.n c.args.at c.loop-j.j (omega arith) (omega arith) (omega arith) c.loop-j.invariant.2 c.loop-j.invariant.3 }
+pub returns-clause-row_after : goal.returns-clause-row_after
+returns-clause-row_after c = row-removed _ _ _ _ c.requires.0 c.copy_within.ensures.after

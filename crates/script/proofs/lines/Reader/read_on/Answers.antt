@@ -1,46 +1,17 @@
-use Prim.Native.Nat.{ℕ, ◌+◌}
-use Rattle.script.proofs.lines.Pieces.{in-ended, after-ended, in-more, after_more, in-done, after-done}
-use Rattle.script.specs.Lines.{lines_in, open_after}
-use lib.ListN.{take, drop}
-use mathlib.Core.List.{List, [], ◌∷◌}
-use mathlib.Core.Path.{◌≡◌, refl, sym, ap, ◌∙◌}
+use mathlib.Core.Path.{sym, ◌∙◌}
 use native.Mathlib.Omega.{arith}
 use borrow.Author.Rules.{rules}
+use Rattle.script.proofs.lines.Pieces.{reads-none, reads-open, reads-end}
 use Rattle.script.proofs.lines.Reader.read_on.Goals as goal
 
-pub loop-i-init : goal.loop-i-init
-loop-i-init c = (omega arith, search rules, refl, refl, refl)
+pub returns-in_err-rest : goal.returns-in_err-rest
+returns-in_err-rest c =
+    rw c.from_residual.ensures (reads-none c.args.self.now c.args.piece.now c.args.at (omega (arith, c.in_err-rest.ensures.lookup)))
 
-pub returns-then-b-eq10 : goal.returns-then-b-eq10
-returns-then-b-eq10 c = let k = take c.loop-i.n c.loop-i.reader.bytes in
-    record {
-      lines =
-          sym c.loop-i.invariant.2
-          ∙ in-ended k c.args.piece.now c.loop-i.i (omega arith) c.if-b-eq10.true
-          ∙ ap (λ (x : List ℕ). x ∷ lines_in [] (drop (c.loop-i.i + 1) c.args.piece.now)) (sym c.put-n.ensures.0);
-      after = sym c.loop-i.invariant.3 ∙ after-ended k c.args.piece.now c.loop-i.i (omega arith) c.if-b-eq10.true;
-      same = c.loop-i.invariant.4;
-      within = λ e. omega arith;
-      further = λ e. omega arith;
-      all = λ e. absurd (let z : ◌≡◌ {A = ℕ} 0 1 = cc in omega arith);
-    }
-
-pub loop-i-preserved : goal.loop-i-preserved
-loop-i-preserved c = let k = take c.loop-i.n c.loop-i.reader.bytes in (
-  omega arith,
-  c.put-n.ensures.1,
-  ap (λ (x : List ℕ). lines_in x (drop (c.loop-i.i + 1) c.args.piece.now)) c.put-n.ensures.0 ∙ sym (in-more k c.args.piece.now c.loop-i.i (omega arith) c.if-b-eq10.false) ∙ c.loop-i.invariant.2,
-  ap (λ (x : List ℕ). open_after x (drop (c.loop-i.i + 1) c.args.piece.now)) c.put-n.ensures.0 ∙ sym (after_more k c.args.piece.now c.loop-i.i (omega arith) c.if-b-eq10.false) ∙ c.loop-i.invariant.3,
-  c.loop-i.invariant.4,
-)
+pub returns-in_default : goal.returns-in_default
+returns-in_default c =
+    reads-open c.args.self.now c.keep.new.self c.args.piece.now c.args.at c.in_ok-rest.rest.now c.in_ok-rest.ensures.lookup.0.2 (search rules) c.keep.ensures.same (sym c.in_default.is ∙ c.find_end.ensures) c.keep.ensures.kept
 
 pub returns : goal.returns
-returns c = let k = take c.loop-i.n c.loop-i.reader.bytes in
-    record {
-      lines = sym c.loop-i.invariant.2 ∙ in-done k c.args.piece.now c.loop-i.i (omega arith);
-      after = sym c.loop-i.invariant.3 ∙ after-done k c.args.piece.now c.loop-i.i (omega arith);
-      same = c.loop-i.invariant.4;
-      within = λ e. absurd (let z : ◌≡◌ {A = ℕ} 0 1 = cc in omega arith);
-      further = λ e. absurd (let z : ◌≡◌ {A = ℕ} 0 1 = cc in omega arith);
-      all = λ e. omega arith;
-    }
+returns c =
+    reads-end c.args.self.now c.keep-2.new.self c.args.piece.now c.args.at c.in_ok-rest.rest.now c.in_ok-rest.ensures.lookup.0.2 (search rules) c.keep-2.ensures.same c.in-Some.end (sym c.in-Some.is ∙ c.find_end.ensures) c.keep-2.ensures.kept

@@ -1,50 +1,24 @@
-use Prim.Native.Nat.{ℕ, ◌≤◌, ◌+◌}
-use Rattle.script.proofs.text.Written.{wrote-next, wrote_none, wrote-all}
-use borrow.Author.Rules.{rules}
-use lib.ListN.{length, take, length-set}
+use Prim.Native.Nat.{ℕ}
+use lib.ListN.{length, take}
+use lib.Seq.{length-take-le}
 use mathlib.Core.List.{List, ◌++◌}
-use mathlib.Core.Logic.{inl, inr}
-use mathlib.Core.Path.{refl, ap, ◌∙◌}
+use mathlib.Core.Path.{◌≡◌, ap, ◌∙◌}
 use native.Mathlib.Omega.{arith}
+use borrow.Author.Rules.{rules}
+use Rattle.std.proofs.lemmas.Slice.{take-put_mid}
+use Rattle.script.proofs.text.Written.{all-of}
 use Rattle.script.proofs.text.Out.write.Goals as goal
 
-pub loop-i-init : goal.loop-i-init
-loop-i-init c = (
-  omega arith,
-  omega arith,
-  refl,
-  omega arith,
-  search rules,
-  wrote_none c.args.out.now c.args.self.bytes c.args.used,
-)
-
-pub returns-then-self-i : goal.returns-then-self-i
-returns-then-self-i c = record {
-  text_is =
-      c.loop-i.invariant.5
-      ∙ ap (λ (x : List ℕ). take c.args.used c.args.out.now ++ x)
-      (wrote-all c.args.self.bytes c.args.self.length c.loop-i.i c.loop-i.invariant.1 (inl c.if-self-i.true));
-  few = omega arith;
-  long = c.loop-i.invariant.2;
-}
-
-pub loop-i-preserved : goal.loop-i-preserved
-loop-i-preserved c = (
-  omega arith,
-  omega arith,
-  length-set c.loop-i.out (c.args.used + c.loop-i.i) _ ∙ c.loop-i.invariant.2,
-  omega arith,
-  c.loop-i.invariant.4,
-  wrote-next c.loop-i.out c.args.out.now c.args.self.bytes c.args.used c.loop-i.i (omega arith) (omega arith) c.loop-i.invariant.5,
-)
-
 pub returns : goal.returns
-returns c = let h : length c.args.self.bytes ≤ c.loop-i.i = omega arith in
+returns c =
+    let l : length c.args.self.now.bytes ≡ 160 = search rules in
+    let n : length (take c.min.result c.args.self.now.bytes) ≡ c.min.result = length-take-le c.min.result c.args.self.now.bytes (omega (arith, l, c.min.ensures)) in
+    let m = ap length c.copy_from_slice.ensures.after in
     record {
       text_is =
-          c.loop-i.invariant.5
+          take-put_mid c.args.used _ c.args.out.now c.copy_from_slice.new.self _ (omega (arith, m)) (omega arith)
           ∙ ap (λ (x : List ℕ). take c.args.used c.args.out.now ++ x)
-          (wrote-all c.args.self.bytes c.args.self.length c.loop-i.i c.loop-i.invariant.1 (inr h));
-      few = omega arith;
-      long = c.loop-i.invariant.2;
+          (c.copy_from_slice.ensures.after ∙ all-of c.args.self.now.bytes c.args.self.now.length c.min.result l c.min.ensures);
+      few = omega (arith, n, c.min.ensures);
+      long = search rules;
     }

@@ -1,0 +1,10 @@
+use Rattle.board.proofs.steady.Steadying.{round-within}
+use borrow.Author.Tests.{eq-eqb, ne_eqb}
+use Rattle.board.proofs.steady.Pair.in_step.Goals as goal
+
+pub returns : goal.returns
+returns c =
+    round-within c.args.self.follower.track c.args.self.master.track c.args.self.follower.valid c.args.self.master.valid _ _
+    (eq-eqb _ _ c.if-t-ne-PLAYING.false) (eq-eqb _ _ c.if-m-ne-PLAYING.false) (ne_eqb _ _ c.if-t-eq-DUE.false)
+    (ne_eqb _ _ c.if-m-eq-DUE.false) c.if-t-k.false _
+    (rw (c.fine.ensures.0, c.fine-2.ensures.0, c.span.ensures, c.span-2.ensures, c.scaled.ensures) at c.rounds.ensures)
