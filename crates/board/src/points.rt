@@ -1,7 +1,8 @@
 // The board's points: keys strictly ascending, and beside each key what the point does.
 ghost use Rattle.std.specs.Prelude.{◌≡◌, ◌+◌, ◌*◌, ◌≤◌, ◌<◌, length};
 ghost use Rattle.track.specs.Rule.{coordinate_last};
-ghost use Rattle.board.specs.Points.{point_most, stride, keys_of, infos_of, key_of, info_of, point_of, PointsRule, first_from, insert_row, remove_row, info_at, stored_as, stored_in};
+ghost use Rattle.board.specs.Points.{point_most, stride, keys_of, infos_of, key_of, info_of, point_of, PointsRule};
+ghost use Rattle.board.specs.Points.{first_from, insert_row, remove_row, info_at, stored_as, stored_in};
 ghost use Rattle.board.specs.Points.{dropped_from, count_of, between, find_first, find_last, nearest, key, no_points, track_count, key_end, info_end};
 
 use track::Coordinate;
