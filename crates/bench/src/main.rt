@@ -69,7 +69,7 @@ struct Row {
 impl Row {
     // Does the call; the board after it.
     fn act(&mut self, board: Board, log: &mut [u8]) -> Board {
-        do_row(board, &self.numbers, 0, log, &mut self.reply.0)
+        do_row(board, &self.numbers, log, &mut self.reply.0)
     }
 }
 

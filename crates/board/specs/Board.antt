@@ -105,6 +105,11 @@ allowed_test present p =
     && (leb p.wait 1
     && (leb p.command 4 && cond (eqb p.command 0) (eqb p.target 0) (is_present present p.target))))
 
+-- the point of a key and an info
+abbrev pub point_test : ℕ → List Track → ℕ → ℕ → Bool
+point_test present ts k d =
+    place_test present (track_at ts (point_of k d).track) (point_of k d) && allowed_test present (point_of k d)
+
 -- the points of two rows, every key at least lo
 unfoldable pub points_test : ℕ → List Track → ℕ → List ℕ → List ℕ → Bool
 points_test present ts lo [] ds = true
@@ -146,6 +151,10 @@ fresh_board =
 -- 1 number not 0 to 15, or track absent
 unfoldable pub found_in : ℕ → ℤ → Option ℕ
 found_in present track = on_some (natural_of track 0 15) (λ i. cond (is_present present i) (Some i) None) None
+
+-- both rows of a board's points have their places
+abbrev pub rows_whole : List ℕ → List ℕ → Bool
+rows_whole keys infos = eqb (length keys) point_most && eqb (length infos) point_most
 
 -- a board of its parts
 abbrev pub board_of : List Track → ℕ → List ℕ → List ℕ → ℕ → ℕ → ℕ → Board

@@ -233,7 +233,7 @@ pair_numbers (pairs.More x₁ e₁ x₂ e₂ x₃ e₃ x₄ e₄ x₅ e₅) =
 unfoldable pub says_of : Call → ℕ → Board → Reply
 says_of (call.AddTrack i lo hi) n b = answered (add_track b i lo hi).answer
 says_of (call.SetUp i c) n b = answered (set_up b i c).answer
-says_of (call.SetPoint i p e w c g) n b = answered (set_point b i p e w c g).answer
+says_of (call.SetPoint i p) n b = answered (set_point b i p).answer
 says_of (call.DropPoint i p) n b = answered (drop_point b i p).answer
 says_of (call.Play i) n b = answered (mode_result b n i PLAY).answer
 says_of (call.Pause i) n b = answered (mode_result b n i PAUSE).answer
@@ -250,7 +250,7 @@ says_of (call.Master i m ps) n b = answered (set_master b i m (pair_numbers ps))
 unfoldable pub makes_of : Call → ℕ → Board → Made Board Record
 makes_of (call.AddTrack i lo hi) n b = made_of (add_track b i lo hi)
 makes_of (call.SetUp i c) n b = made_of (set_up b i c)
-makes_of (call.SetPoint i p e w c g) n b = made_of (set_point b i p e w c g)
+makes_of (call.SetPoint i p) n b = made_of (set_point b i p)
 makes_of (call.DropPoint i p) n b = made_of (drop_point b i p)
 makes_of (call.Play i) n b = made_by (mode_result b n i PLAY)
 makes_of (call.Pause i) n b = made_by (mode_result b n i PAUSE)
@@ -273,7 +273,7 @@ unfoldable pub clears_of : Call → Board → Bool
 clears_of call.Clear b = is_accepted (clear_board b).answer
 clears_of (call.AddTrack i lo hi) b = false
 clears_of (call.SetUp i c) b = false
-clears_of (call.SetPoint i p e w c g) b = false
+clears_of (call.SetPoint i p) b = false
 clears_of (call.DropPoint i p) b = false
 clears_of (call.Play i) b = false
 clears_of (call.Pause i) b = false
@@ -318,7 +318,7 @@ unfoldable pub run_count : Call → Option ℕ
 run_count (call.Advance k) = natural_of k 0 most
 run_count (call.AddTrack i lo hi) = None
 run_count (call.SetUp i c) = None
-run_count (call.SetPoint i p e w c g) = None
+run_count (call.SetPoint i p) = None
 run_count (call.DropPoint i p) = None
 run_count (call.Play i) = None
 run_count (call.Pause i) = None

@@ -55,7 +55,11 @@ mode_result b n track call =
     (declined 7 b))
     (declined 3 b)
 
--- the board b after a mode call that came to r, and the answer: one track put in its place, and the number of records held
+-- the board b with the change of a mode call: one track put in its place, and the number of records held
+abbrev pub changed_by : Board → ModeChange → Board
+changed_by b r = board_with b (set b.tracks r.at r.track) b.present b.points r.held
+
+-- the board b after a mode call that came to r, and the answer
 abbrev pub outcome_of : Board → Result ModeChange Refusal → Outcome
-outcome_of b (Ok r) = accepted (board_with b (set b.tracks r.at r.track) b.present b.points r.held)
+outcome_of b (Ok r) = accepted (changed_by b r)
 outcome_of b (Err e) = refused (number_of e) b

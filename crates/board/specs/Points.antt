@@ -1,6 +1,7 @@
 -- The points of a board (01, "Points"), kept as two rows of numbers in ascending order of their keys.
-use Rattle.std.specs.Prelude.{ℕ, suc, ◌+◌, ◌-◌, ◌*◌, ◌/◌, ◌%◌, ◌≤◌, ◌≡◌, List, [], ◌∷◌, ◌++◌, Bool, true, false, cond, ◌&&◌, ◌||◌, length, take, drop, set, replicate, leb, ltb, eqb, Option, Some, None}
+use Rattle.std.specs.Prelude.{ℕ, suc, ◌+◌, ◌-◌, ◌*◌, ◌/◌, ◌%◌, ◌≤◌, ◌<◌, ◌≡◌, List, [], ◌∷◌, ◌++◌, Bool, true, false, cond, ◌&&◌, ◌||◌, length, take, drop, set, replicate, leb, ltb, eqb, Option, Some, None}
 use Rattle.track.specs.declared.Coordinate.{Coordinate}
+use Rattle.track.specs.Rule.{event_most}
 use Rattle.board.specs.declared.points.Points.{Points}
 use Rattle.board.specs.declared.points.Point.{Point}
 
@@ -61,6 +62,12 @@ target_of d = d / target_unit
 -- the wait flag is 1
 unfoldable pub waits : ℕ → Bool
 waits d = eqb (wait_of d) 1
+
+-- an info whose event, command and target are in their ranges; 0, which is no point, is one
+pub record InfoRule (d : ℕ) : Type 0 where
+  pub event : event_of d ≤ event_most
+  pub command : command_of d ≤ 4
+  pub target : target_of d < track_count
 
 -- the point of a key and an info
 unfoldable pub point_of : ℕ → ℕ → Point
@@ -203,3 +210,9 @@ pub record PointsRule (t : Points) : Type 0 where
   pub count : t.count ≤ point_most
   pub order : ascending_from 0 (keys_of t) ≡ true
   pub nonzero : NonzeroInfos (keys_of t) (infos_of t)
+
+-- The same of the keys and the infos held, as they are lent for a lookup
+pub record RowsRule (ks ds : List ℕ) : Type 0 where
+  pub paired : length ks ≡ length ds
+  pub order : ascending_from 0 ks ≡ true
+  pub nonzero : NonzeroInfos ks ds

@@ -1,6 +1,8 @@
 -- Quiet ticks (01, "Advance"; 02, 2.1 and 2.4): no step of a playing track reaches a point of its own or stops it, and no follower's band
 -- changes, so that they are leapt.
 use Rattle.std.specs.Prelude.{ℕ, zero, suc, ◌/◌, ◌%◌, ◌≤◌, ◌<◌, ◌≡◌, ◌⊎◌, List, [], ◌∷◌, Bool, true, false, ◌&&◌, ◌||◌, length, set}
+use mathlib.Core.HLevel.{×_prop, Unit-prop}
+use denote.Struct.Props.{props}
 use Rattle.track.specs.declared.Track.{Track}
 use Rattle.track.specs.Rule.{PLAYING, Valid, clock_end}
 use Rattle.track.specs.Walk.{arrival, stops}
@@ -85,6 +87,12 @@ pub record CanLeap (t : Track) : Type 0 where
 
 abbrev pub Leapable : List Track → List ℕ → Type 0
 Leapable ts is = Each (λ i. CanLeap (track_at ts i)) is
+
+-- a fact without cases, so that a type can carry it
+pub Leapable-prop : (ts : List Track) (is : List ℕ) → IsProp (Leapable ts is)
+unfolding Each
+Leapable-prop ts [] = Unit-prop
+Leapable-prop ts (i ∷ is) = ×_prop (Prim.hlevel props) (Leapable-prop ts is)
 
 -- the tracks of these numbers k ticks on, read from ts and put into us
 unfoldable pub leap_into : ℕ → List Track → List ℕ → List Track → List Track

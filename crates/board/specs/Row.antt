@@ -7,10 +7,10 @@ use Rattle.board.specs.declared.call.Call.{Call}
 use Rattle.board.specs.declared.call.Call.TheVariants as call
 use Rattle.board.specs.declared.call.Pairs.{Pairs}
 use Rattle.board.specs.declared.call.Pairs.TheVariants as pairs
-use Rattle.board.specs.Call.{TrackValues, PointValues, Reply, accepted, refused, done, log_full, clock_ended, clock_is, track_is, point_is, count_is, does}
+use Rattle.board.specs.Call.{TrackValues, PointValues, Reply, accepted, refused, done, log_full, clock_ended, clock_is, track_is, point_is, count_is, does, world}
+use Rattle.board.specs.Setup.{given_point}
 use Rattle.board.specs.Cut.{All, Did}
 use Rattle.board.specs.Replay.{World}
-use Rattle.board.specs.Log.{write_at}
 
 -- ---- a call
 
@@ -27,7 +27,7 @@ call_from n a b c d e f =
     (cond (eqb n 4) (Some (call.SetUp a (change.Loops b)))
     (cond (eqb n 5) (Some (call.SetUp a (change.Repeat b)))
     (cond (eqb n 6) (Some (call.SetUp a (change.Direction b)))
-    (cond (eqb n 7) (Some (call.SetPoint a b c d e f))
+    (cond (eqb n 7) (Some (call.SetPoint a (given_point b c d e f)))
     (cond (eqb n 8) (Some (call.DropPoint a b))
     (cond (eqb n 9) (Some (call.SetUp a (change.Action b c d)))
     (cond (eqb n 10) (Some (call.SetUp a (change.Jump b)))
@@ -183,9 +183,7 @@ rows_do (o ∷ os) w =
     let r : All Reply (World Board) = rows_do os (row_does o w).left in
     record { answers = (row_does o w).answer ∷ r.answers; last = r.last }
 
--- A row has been done: the board, the log and the replies after it, its own reply at its place.
-pub record RowDone (row : Option Call) (w : World Board) (replies : List ℕ) (at : ℕ) (board : Board) (log' replies' : List ℕ) : Type 0 where
-  pub board_is : board ≡ (row_does row w).left.board
-  pub log_is : log' ≡ (row_does row w).left.log
-  pub reply_long : length (numbers_of (row_does row w).answer) ≡ reply_width
-  pub reply_is : replies' ≡ write_at replies at (numbers_of (row_does row w).answer)
+-- what a row gives: the board, the log and the numbers of its reply after it
+pub record RowAnswered (row : Option Call) (w : World Board) (board : Board) (log' reply : List ℕ) : Type 0 where
+  pub left_is : world board log' ≡ (row_does row w).left
+  pub reply_is : reply ≡ numbers_of (row_does row w).answer

@@ -11,6 +11,7 @@ use Rattle.track.specs.Follow.{following}
 use Rattle.track.specs.Number.{natural_of, coordinate_of, within, on_some}
 use Rattle.track.specs.Setup.{changed_by, settled}
 use Rattle.board.specs.declared.Board.{Board}
+use Rattle.board.specs.declared.call.PointNumbers.{PointNumbers}
 use Rattle.board.specs.declared.points.Point.{Point}
 use Rattle.board.specs.declared.points.Points.{Points}
 use Rattle.board.specs.Points.{Stored}
@@ -80,14 +81,19 @@ point_with track position event wait command target =
 abbrev pub allowed_only : ℕ → Point → Option Point
 allowed_only present p = cond (allowed_test present p) (Some p) None
 
+-- the numbers of a call
+abbrev pub given_point : ℤ → ℤ → ℤ → ℤ → ℤ → PointNumbers
+given_point position event wait command target =
+    record { position = position; event = event; wait = wait; command = command; target = target }
+
 -- the point that the numbers of a call describe, if each is in its range and the target keeps its rule
-unfoldable pub described_by : ℕ → ℕ → Track → ℤ → ℤ → ℤ → ℤ → ℤ → Option Point
-described_by present i owner position event wait command target =
-    on_some (within owner.min.0 owner.max.0 (coordinate_of position))
-    (λ l. on_some (natural_of event 1 event_most)
-    (λ e. on_some (natural_of wait 0 1)
-    (λ w. on_some (natural_of command 0 4)
-    (λ c. on_some (natural_of target 0 15)
+unfoldable pub described_by : ℕ → ℕ → Track → PointNumbers → Option Point
+described_by present i owner given =
+    on_some (within owner.min.0 owner.max.0 (coordinate_of given.position))
+    (λ l. on_some (natural_of given.event 1 event_most)
+    (λ e. on_some (natural_of given.wait 0 1)
+    (λ w. on_some (natural_of given.command 0 4)
+    (λ c. on_some (natural_of given.target 0 15)
     (λ g. allowed_only present (point_with i l e w c g)) None) None) None) None) None
 
 -- 5 a 257th point (replacing one is no new point)
@@ -100,12 +106,12 @@ on_described b (Some p) = put_points b 5 (stored_in b.points (key_of p) (info_of
 on_described b None = refused 3 b
 
 -- 3 broken, 1 track, 2 mode (STOPPED or PAUSED), 3 a value, 5 full
-unfoldable pub set_point : Board → ℤ → ℤ → ℤ → ℤ → ℤ → ℤ → Outcome
-set_point b track position event wait command target =
+unfoldable pub set_point : Board → ℤ → PointNumbers → Outcome
+set_point b track given =
     on_unbroken b
     (on_track b track
     (λ i. cond (settled (track_at b.tracks i).mode)
-    (on_described b (described_by b.present i (track_at b.tracks i) position event wait command target)) (refused 2 b)))
+    (on_described b (described_by b.present i (track_at b.tracks i) given)) (refused 2 b)))
 
 -- 3 broken, 1 track, 2 mode, 4 no point there; any position is taken, one outside the bounds has no point
 unfoldable pub drop_point : Board → ℤ → ℤ → Outcome

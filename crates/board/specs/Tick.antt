@@ -7,9 +7,10 @@ use Rattle.track.specs.Grid.{grid_of}
 use Rattle.track.specs.Walk.{arrival, passes_at}
 use Rattle.track.specs.Leap.{moves, played}
 use Rattle.board.specs.declared.Board.{Board}
+use Rattle.board.specs.declared.info.Info.{Info}
 use Rattle.board.specs.declared.log.Record.{Record}
 use Rattle.board.specs.declared.tick.Stepped.{Stepped}
-use Rattle.board.specs.Points.{key, keys_of, infos_of, info_at, event_of, command_of, target_of, waits, track_count}
+use Rattle.board.specs.Points.{key, keys_of, infos_of, info_at, event_of, command_of, target_of, waits, track_count, InfoRule}
 use Rattle.board.specs.Replay.{Each}
 use Rattle.board.specs.Board.{track_at, is_present}
 use Rattle.board.specs.Log.{detail_unit, record_width}
@@ -101,6 +102,11 @@ step_records clock i t d =
 -- what a tick changes of its track
 abbrev pub stepped : Track → Stepped
 stepped t = record { mode = t.mode; position = t.position; passes = t.passes; due = t.due; remainder = t.remainder }
+
+-- the number of an info, 0 where there is none
+abbrev pub info_number : Option Info → ℕ
+info_number (Some d) = d.number
+info_number None = 0
 
 abbrev pub reached_by : ℕ → List ℕ
 reached_by d = cond (eqb d 0) [] (d ∷ [])
@@ -205,12 +211,6 @@ abbrev pub tick_of : Board → Stage
 tick_of b = tick_from (keys_of b.points) (infos_of b.points) (b.clock.0 + 1) b.present b.tracks
 
 -- ---- what the parts of a tick may rely on
-
--- an info whose event, command and target are in their ranges; 0, which is no point, is one
-pub record InfoRule (d : ℕ) : Type 0 where
-  pub event : event_of d ≤ event_most
-  pub command : command_of d ≤ 4
-  pub target : target_of d < track_count
 
 -- the present tracks are valid, and every command's target is one of them
 pub record TracksRule (present : ℕ) (ts : List Track) (ds : List ℕ) : Type 0 where

@@ -3,7 +3,7 @@ ghost use Rattle.std.specs.Prelude.{◌≡◌, true, ◌≤◌, length};
 ghost use Rattle.board.specs.Board.{unbroken_test};
 ghost use Rattle.board.specs.Log.{capacity};
 ghost use Rattle.board.specs.Call.{world, Gives, does, advanced_said};
-ghost use Rattle.board.specs.Advance.{TakesTicks, Proceeds};
+ghost use Rattle.board.specs.Advance.{TakesTicks, Proceeds, board_left};
 ghost use Rattle.board.specs.declared.call.Call.TheVariants as call;
 ghost use Rattle.board.specs.declared.call.Advanced.TheVariants as advanced;
 
@@ -11,12 +11,14 @@ use crate::Board;
 use crate::call::Advanced;
 use crate::follow::{followers, judge_bands};
 use crate::log::Record;
-use crate::points::{OrderedPoints, Points};
-use crate::quiet::{leapt, quiet};
+use crate::members::Members;
+use crate::points::Points;
+use crate::quiet::Playing;
 use crate::stage::{Reached, Staged};
 use crate::tick::{info_met, needs_more, playing, run_commands, step_member};
 use track::number::in_range;
 use track::refusal::Refusal;
+use track::valid::{SoundTrack, ValidTrack};
 use track::{Ticks, Track};
 
 // Where ticks left off: what a tick changes of a board.
@@ -26,6 +28,17 @@ pub struct Left {
     pub tracks: [Track; Board::TRACKS],
     pub clock: Ticks,
     pub held: usize,
+}
+
+impl Left {
+    // The board after the ticks.
+    pub fn store(&self, board: &mut Board)
+        ensures { board.new ≡ board_left board.old self.now }
+    {
+        board.tracks = self.tracks;
+        board.clock = self.clock;
+        board.held = self.held as u64;
+    }
 }
 
 // A refused advance leaves the board as it is.
@@ -44,19 +57,20 @@ fn declined(b: &Board, refusal: Refusal) -> Left
 // ahead and works out the one behind them: the steps in one pass over the playing tracks, then the commands of the points reached,
 // then the bands of the followers. Its records are staged apart from the log, and the tick is kept if they fit. After a tick with
 // records the next is walked without looking for a leap.
+#[tactic(auto, using(crate::proofs::tick::Bits::first_inside, crate::proofs::advance::Standing::leapable, crate::proofs::advance::Standing::pairs))]
 fn run(b: &Board, count: Ticks, log: &mut [u8]) -> Left
     requires kept_value { unbroken_test b.now ≡ true }
     requires kept_bound { b.now.held ≤ capacity (length log.old) }
     ensures { TakesTicks b.now count.0 log.old result log.new }
 {
-    let points = OrderedPoints { points: &b.points };
+    let points = b.points.ordered();
     let slots = log.len() / Record::WIDTH;
     let wanted = count.0;
     let mut tracks = b.tracks;
     // The tracks to go back to if a tick's records don't fit; set before every tick that might not fit.
     let mut back = b.tracks;
-    let mut word = playing(b.tracks, b.present);
-    let led = followers(b.tracks, b.present);
+    let mut word = playing(&b.tracks, b.present);
+    let led = followers(&b.tracks, b.present);
     let mut clock = b.clock.0;
     let mut held = b.held as usize;
     let mut taken: u32 = 0;
@@ -71,13 +85,17 @@ fn run(b: &Board, count: Ticks, log: &mut [u8]) -> Left
             break 'ticks;
         }
         let most = (wanted - taken).min(Ticks::END - clock);
+        let players = Playing {
+            tracks: &tracks,
+            word,
+        };
         let mut skipped: u32 = 0;
         if look {
-            let stretch = quiet(tracks, word, led, points);
+            let stretch = players.quiet(led, points);
             skipped = stretch.0.min(most);
         }
         if skipped == most {
-            tracks = leapt(tracks, word, Ticks(most));
+            tracks = players.leapt(Ticks(most));
             clock += most;
             taken += most;
             answer = Advanced::Done(Ticks(taken));
@@ -90,48 +108,53 @@ fn run(b: &Board, count: Ticks, log: &mut [u8]) -> Left
         // made here, and the pass has none to make.
         if room < Staged::MOST {
             if 0 < skipped {
-                tracks = leapt(tracks, word, Ticks(skipped));
+                tracks = players.leapt(Ticks(skipped));
                 skipped = 0;
             }
             back = tracks;
         }
         stage.clear();
         reached.clear();
-        let mut rest = word;
-        let mut left = u16::count_ones(word);
         let mut more = false;
-        // The members alone, lowest first; a track that stands is not asked.
-        while 0 < left {
-            let i = u16::trailing_zeros(rest) as usize;
-            let s = tracks[i];
-            let t = s.leap(Ticks(skipped));
-            let l = t.arrival();
+        // A track that stands is not asked.
+        for i in Members(word) {
+            let before = SoundTrack {
+                valid: ValidTrack { track: tracks[i] },
+            };
+            let t = SoundTrack {
+                valid: ValidTrack {
+                    track: before.leap(Ticks(skipped)),
+                },
+            };
+            let l = t.valid.arrival();
             let here = i as u32 * Points::STRIDE + l.0;
-            let made = t.moves();
-            let d = info_met(made, here, points);
-            let r = step_member(t, made, l, i as u8, Ticks(clock + 1), d, &mut stage);
+            let made = t.valid.moves();
+            let met = info_met(made, here, points);
+            let r = step_member(t, made, l, i as u8, Ticks(clock + 1), met, &mut stage);
             tracks[i].mode = r.mode;
             tracks[i].position.0 = r.position.0;
             tracks[i].passes.0 = r.passes.0;
             tracks[i].due = r.due;
             tracks[i].remainder = r.remainder;
-            reached.note(d);
-            more = needs_more(more, d, r.mode);
+            reached.note(met);
+            more = needs_more(more, met, r.mode);
             if room < stage.count() {
                 tracks = back;
                 answer = Advanced::LogFull(Ticks(taken));
                 break 'ticks;
             }
-            rest -= 1u16 << i;
-            left -= 1;
         }
         if more {
-            let done = run_commands(tracks, b.present, Ticks(clock + 1), &reached, &mut stage);
-            word = done.word;
-            tracks = done.tracks;
+            word = run_commands(
+                &mut tracks,
+                b.present,
+                Ticks(clock + 1),
+                &reached,
+                &mut stage,
+            );
         }
         if led != 0 {
-            tracks = judge_bands(tracks, led, Ticks(clock + 1), &mut stage);
+            judge_bands(&mut tracks, led, Ticks(clock + 1), &mut stage);
         }
         let total = stage.count();
         if room < total {
@@ -179,15 +202,13 @@ pub fn proceed(b: &Board, count: i64, log: &mut [u8]) -> Left
 }
 
 // Advances by a count of ticks, 0 to 4,294,967,295.
-pub fn advance(b: Board, count: i64, log: &mut [u8]) -> Progress
-    ensures { Gives (does (call.Advance count) (world b log.old)) (advanced_said result.answer) result.board log.new }
+pub fn advance(mut board: Board, count: i64, log: &mut [u8]) -> Progress
+    ensures { Gives (does (call.Advance count) (world board log.old)) (advanced_said result.answer) result.board log.new }
 {
-    let left = proceed(&b, count, log);
-    let answer = left.answer;
-    let after = left.tracks;
-    let mut board = b;
-    board.tracks = after;
-    board.clock.0 = left.clock.0;
-    board.held = left.held as u64;
-    Progress { answer, board }
+    let left = proceed(&board, count, log);
+    left.store(&mut board);
+    Progress {
+        answer: left.answer,
+        board,
+    }
 }

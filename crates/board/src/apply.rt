@@ -104,7 +104,7 @@ pub fn apply(b: Board, c: Call, log: &mut [u8]) -> Applied
     match c {
         Call::AddTrack(i, low, high) => accepted(b, b.add_track(i, low, high)),
         Call::SetUp(i, change) => accepted(b, b.set_up(i, change)),
-        Call::SetPoint(i, p, e, w, k, g) => accepted(b, b.set_point(i, p, e, w, k, g)),
+        Call::SetPoint(i, p) => accepted(b, b.set_point(i, p)),
         Call::DropPoint(i, p) => accepted(b, b.drop_point(i, p)),
         Call::Play(i) => accepted(b, play(b, i, log)),
         Call::Pause(i) => accepted(b, pause(b, i, log)),

@@ -4,13 +4,22 @@ use track::refusal::Refusal;
 use track::setup::Change;
 use track::{Ticks, Track};
 
+// The numbers that a call gives for a point, before any is held to its range.
+#[derive(Clone, Copy)]
+pub struct PointNumbers {
+    pub position: i64,
+    pub event: i64,
+    pub wait: i64,
+    pub command: i64,
+    pub target: i64,
+}
+
 #[derive(Clone, Copy)]
 pub enum Call {
     // Number, min, max.
     AddTrack(i64, i64, i64),
     SetUp(i64, Change),
-    // Track, position, event, wait, command, target.
-    SetPoint(i64, i64, i64, i64, i64, i64),
+    SetPoint(i64, PointNumbers),
     DropPoint(i64, i64),
     Play(i64),
     Pause(i64),

@@ -87,6 +87,7 @@ impl From<[u8; Record::WIDTH]> for Record {
 }
 
 // The position of a coordinate in two's complement.
+#[tactic(auto, using(crate::proofs::log::Records::twos_wrapped))]
 fn twos(c: Coordinate) -> u32
     ensures { result ≡ twos_of (position_of c) }
 {
@@ -94,6 +95,7 @@ fn twos(c: Coordinate) -> u32
 }
 
 // The coordinate of a position in two's complement.
+#[tactic(auto, using(crate::proofs::log::Records::coordinate_wrapped))]
 fn coordinate_of(w: u32) -> Coordinate
     ensures { position_of result ≡ signed_of w }
 {
@@ -101,6 +103,7 @@ fn coordinate_of(w: u32) -> Coordinate
 }
 
 // A record is written at a place where it fits.
+#[tactic(auto, using(crate::proofs::log::Words::write_part, crate::proofs::log::Records::length_record))]
 pub(crate) fn put_record(r: Record, log: &mut [u8], at: usize)
     requires { at + record_width ≤ length log.old }
     ensures { log.new ≡ write_at log.old at (record_bytes r) }
@@ -109,6 +112,7 @@ pub(crate) fn put_record(r: Record, log: &mut [u8], at: usize)
 }
 
 // Whether a kind is 1 to 4.
+#[tactic(auto, unfolding(crate::specs::Log::kind_test))]
 fn kind_known(kind: u8) -> bool
     ensures { result ≡ kind_test kind }
 {
@@ -116,6 +120,7 @@ fn kind_known(kind: u8) -> bool
 }
 
 // Packs a record at a place: refused 3 for another kind, or where its bytes do not fit there.
+#[tactic(auto, unfolding(crate::specs::Log::pack_answer, crate::specs::Log::pack_bytes))]
 pub fn pack(r: Record, bytes: &mut [u8], at: usize) -> Result<(), Refusal>
     ensures answer { pack_said result ≡ pack_answer r bytes.old at }
     ensures bytes { bytes.new ≡ pack_bytes r bytes.old at }

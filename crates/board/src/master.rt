@@ -19,19 +19,25 @@ fn number_at(pairs: &[i64], at: usize, most: u32) -> u32
     in_range(n, 1, most).unwrap_or(0)
 }
 
-// Whether every threshold and every event is in its range.
+// Whether a threshold and its event are in their ranges.
+#[tactic(auto, unfolding(crate::specs::Setup::ranged_test))]
+fn pair_ranged(pair: [i64; 2]) -> bool
+    ensures { result ≡ ranged_test pair }
+{
+    let [threshold, event] = pair;
+    in_range(threshold, 1, Track::THRESHOLD).is_some() && in_range(event, 1, Track::EVENT).is_some()
+}
+
+// Whether every threshold has an event, and both are in their ranges.
 fn ranged(pairs: &[i64]) -> bool
     ensures { result ≡ ranged_test pairs.now }
 {
-    for pair in pairs.chunks(2) {
-        if number_at(pair, 0, Track::THRESHOLD) == 0 || number_at(pair, 1, Track::EVENT) == 0 {
-            return false;
-        }
-    }
-    true
+    let (whole, rest) = pairs.as_chunks();
+    rest.is_empty() && whole.iter().all(|pair| pair_ranged(*pair))
 }
 
 // The event in a place of the pairs.
+#[tactic(auto, using(crate::proofs::master::Pairs::in_most))]
 fn event_at(pairs: &[i64], at: usize) -> u16
     ensures { result ≡ number_at pairs.now at event_most }
 {
@@ -63,6 +69,7 @@ fn master_named(master: u32, pairs: &[i64]) -> u8
 }
 
 // The master of a present track is set to another present one.
+#[tactic(auto, using(crate::proofs::master::Pairs::putting), unfolding(crate::specs::Setup::put_master))]
 fn put_master(mut board: Board, track: u32, master: u32, pairs: &[i64]) -> Result<Board, Refusal>
     requires { (track < track_count) × (master < track_count) }
     ensures { outcome board result ≡ put_master board track master pairs.now }

@@ -1,4 +1,7 @@
 // The mode calls, with the log: by number, on a board that is lent and on one that is given; then play, pause, resume and stop.
+ghost use Rattle.std.specs.Prelude.{◌≡◌, ◌<◌};
+ghost use Rattle.board.specs.Mode.{changed_by};
+ghost use Rattle.board.specs.Points.{track_count};
 ghost use Rattle.board.specs.Call.{GivesAs, does, mode_does, ChangesMode, world};
 ghost use Rattle.board.specs.declared.call.Call.TheVariants.{Play, Pause, Resume, Stop};
 
@@ -8,6 +11,7 @@ use crate::tick::change_record;
 use track::Track;
 use track::grid::grid;
 use track::refusal::Refusal;
+use track::valid::ValidTrack;
 
 // What an accepted mode call comes to: the one track that it may change, and the number of records held.
 #[derive(Clone, Copy)]
@@ -15,6 +19,17 @@ pub struct ModeChange {
     pub at: usize,
     pub track: Track,
     pub held: u64,
+}
+
+impl ModeChange {
+    // The board after the call.
+    pub fn store(&self, board: &mut Board)
+        requires { self.now.at < track_count }
+        ensures { board.new ≡ changed_by board.old self.now }
+    {
+        board.tracks[self.at] = self.track;
+        board.held = self.held;
+    }
 }
 
 // The call on a board that stays as it is.
@@ -32,7 +47,8 @@ pub fn change_mode(b: &Board, track: i64, call: u8, log: &mut [u8]) -> Result<Mo
     let mode = t.mode;
     let new = grid(mode, call).ok_or(Refusal::Mode)?;
     let after = t.entered(new);
-    let Some(r) = change_record(b.clock, at as u8, t, new, t.position, t.passes) else {
+    let valid = ValidTrack { track: t };
+    let Some(r) = change_record(b.clock, at as u8, valid, new, t.position, t.passes) else {
         return Ok(ModeChange {
             at,
             track: after,
@@ -54,15 +70,14 @@ pub fn change_mode(b: &Board, track: i64, call: u8, log: &mut [u8]) -> Result<Mo
 fn mode_call(mut b: Board, track: i64, call: u8, log: &mut [u8]) -> Result<Board, Refusal>
     ensures { GivesAs (mode_does call track (world b log.old)) b result log.new }
 {
-    let change = change_mode(&b, track, call, log)?;
-    b.tracks[change.at] = change.track;
-    b.held = change.held;
+    change_mode(&b, track, call, log)?.store(&mut b);
     Ok(b)
 }
 
 // The four calls of 01, each by its name.
 
 // From STOPPED to PLAYING.
+#[tactic(auto, unfolding(crate::specs::Call::mode_does, crate::specs::Call::run_count, crate::specs::Call::says_of, crate::specs::Call::makes_of))]
 pub fn play(b: Board, track: i64, log: &mut [u8]) -> Result<Board, Refusal>
     ensures { GivesAs (does (Play track) (world b log.old)) b result log.new }
 {
@@ -70,6 +85,7 @@ pub fn play(b: Board, track: i64, log: &mut [u8]) -> Result<Board, Refusal>
 }
 
 // From PLAYING or WAITING to PAUSED.
+#[tactic(auto, unfolding(crate::specs::Call::mode_does, crate::specs::Call::run_count, crate::specs::Call::says_of, crate::specs::Call::makes_of))]
 pub fn pause(b: Board, track: i64, log: &mut [u8]) -> Result<Board, Refusal>
     ensures { GivesAs (does (Pause track) (world b log.old)) b result log.new }
 {
@@ -77,6 +93,7 @@ pub fn pause(b: Board, track: i64, log: &mut [u8]) -> Result<Board, Refusal>
 }
 
 // From PAUSED or WAITING to PLAYING.
+#[tactic(auto, unfolding(crate::specs::Call::mode_does, crate::specs::Call::run_count, crate::specs::Call::says_of, crate::specs::Call::makes_of))]
 pub fn resume(b: Board, track: i64, log: &mut [u8]) -> Result<Board, Refusal>
     ensures { GivesAs (does (Resume track) (world b log.old)) b result log.new }
 {
@@ -84,6 +101,7 @@ pub fn resume(b: Board, track: i64, log: &mut [u8]) -> Result<Board, Refusal>
 }
 
 // From any mode to STOPPED, rewound.
+#[tactic(auto, unfolding(crate::specs::Call::mode_does, crate::specs::Call::run_count, crate::specs::Call::says_of, crate::specs::Call::makes_of))]
 pub fn stop(b: Board, track: i64, log: &mut [u8]) -> Result<Board, Refusal>
     ensures { GivesAs (does (Stop track) (world b log.old)) b result log.new }
 {

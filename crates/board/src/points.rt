@@ -1,7 +1,7 @@
 // The board's points: keys strictly ascending, and beside each key what the point does.
 ghost use Rattle.std.specs.Prelude.{◌≡◌, ◌+◌, ◌*◌, ◌≤◌, ◌<◌, length};
 ghost use Rattle.track.specs.Rule.{coordinate_last};
-ghost use Rattle.board.specs.Points.{point_most, stride, keys_of, infos_of, key_of, info_of, point_of, PointsRule};
+ghost use Rattle.board.specs.Points.{point_most, stride, keys_of, infos_of, key_of, info_of, point_of, PointsRule, RowsRule};
 ghost use Rattle.board.specs.Points.{first_from, insert_row, remove_row, info_at, stored_as, stored_in};
 ghost use Rattle.board.specs.Points.{dropped_from, count_of, between, find_first, find_last, nearest, key, no_points, track_count, key_end, info_end};
 
@@ -29,18 +29,27 @@ pub struct Points {
 }
 
 // What stands at a position, 0 for nothing, and the nearest point further on. The info is the number that C's rows hold, and the rule's own `info_at`
-// gives 0 for no point: a tick carries it on as it stands there.
+// gives 0 for no point.
 #[derive(Clone, Copy)]
 pub struct Lookup {
     pub info: u32,
     pub near: Option<Coordinate>,
 }
 
-// The points of a board that keeps its rules, lent, so that no lookup copies them.
+// The points of a board that keeps its rules, lent, so that no lookup copies them: the keys held, and the info beside each.
 #[derive(Clone, Copy)]
 pub(crate) struct OrderedPoints<'a> {
-    pub(crate) points: &'a Points,
-    ghost rule: { PointsRule points.now },
+    keys: &'a [u32],
+    infos: &'a [u32],
+    ghost rule: { RowsRule keys.now infos.now },
+}
+
+// The points of a board, lent, and the track of which they are asked.
+#[derive(Clone, Copy)]
+pub(crate) struct TrackPoints<'a> {
+    pub(crate) points: OrderedPoints<'a>,
+    pub(crate) track: u32,
+    ghost one: { track < track_count },
 }
 
 impl Points {
@@ -54,6 +63,7 @@ impl Points {
     pub const END: u32 = 33554432;
 
     // No point.
+    #[tactic(auto, unfolding(crate::specs::Points::no_points))]
     pub fn new() -> Self
         ensures { result ≡ no_points }
     {
@@ -83,24 +93,37 @@ impl Points {
         row.copy_within(at + 1..n, at);
     }
 
+    // The points held, lent.
+    pub(crate) fn ordered<'a>(&'a self) -> OrderedPoints<'a>
+        requires rule { PointsRule self.now }
+        ensures keys { result.keys.now ≡ keys_of self.entry.now }
+        ensures infos { result.infos.now ≡ infos_of self.entry.now }
+    {
+        OrderedPoints {
+            keys: &self.keys[..self.count],
+            infos: &self.infos[..self.count],
+        }
+    }
+
     // Stores a point, or another info at its key; none where there is no room for one more.
     pub(crate) fn stored(mut self, wanted: u32, info: u32) -> Option<Points>
         requires rule { PointsRule self }
         ensures { stored_as self result ≡ stored_in self wanted info }
     {
         let n = self.count;
-        let i = OrderedPoints { points: &self }.first_from(wanted);
-        if i < n && self.keys[i] == wanted {
-            self.infos[i] = info;
-            return Some(self);
+        match self.keys[..n].binary_search(&wanted) {
+            Ok(i) => {
+                self.infos[i] = info;
+                Some(self)
+            }
+            Err(_) if Points::MOST <= n => None,
+            Err(i) => {
+                Points::insert_at(&mut self.keys, n, i, wanted);
+                Points::insert_at(&mut self.infos, n, i, info);
+                self.count = n + 1;
+                Some(self)
+            }
         }
-        if Points::MOST <= n {
-            return None;
-        }
-        Points::insert_at(&mut self.keys, n, i, wanted);
-        Points::insert_at(&mut self.infos, n, i, info);
-        self.count = n + 1;
-        Some(self)
     }
 
     // Drops the point with a key; none where there is no such point.
@@ -109,10 +132,9 @@ impl Points {
         ensures { stored_as self result ≡ dropped_from self wanted }
     {
         let n = self.count;
-        let i = OrderedPoints { points: &self }.first_from(wanted);
-        if n <= i || self.keys[i] != wanted {
+        let Ok(i) = self.keys[..n].binary_search(&wanted) else {
             return None;
-        }
+        };
         Points::remove_at(&mut self.keys, n, i);
         Points::remove_at(&mut self.infos, n, i);
         self.count = n - 1;
@@ -123,30 +145,28 @@ impl Points {
 impl<'a> OrderedPoints<'a> {
     // The index of the first key that is at least `wanted`, or the count where there is none.
     fn first_from(self, wanted: u32) -> usize
-        ensures { result ≡ first_from (keys_of self.entry.points.now) wanted }
+        ensures { result ≡ first_from self.entry.keys.now wanted }
     {
-        let keys = &self.points.keys[..self.points.count];
-        keys.partition_point(|k| *k < wanted)
+        self.keys.partition_point(|k| *k < wanted)
     }
 
-    // The info beside a key, 0 where there is none.
+    // The info beside a key, 0 where there is none. By `first_from`: with `binary_search` a dense board took 1.3 times as long.
     pub(crate) fn info_at(self, wanted: u32) -> u32
-        ensures { result ≡ info_at wanted (keys_of self.entry.points.now) (infos_of self.entry.points.now) }
+        ensures { result ≡ info_at wanted self.entry.keys.now self.entry.infos.now }
     {
         let i = self.first_from(wanted);
-        if self.points.count <= i {
+        let Some(found) = self.keys.get(i) else {
+            return 0;
+        };
+        if *found != wanted {
             return 0;
         }
-        let found = self.points.keys[i];
-        if found != wanted {
-            return 0;
-        }
-        self.points.infos[i]
+        self.infos[i]
     }
 
     // How many keys stand from `from` on and below `past`.
     pub(crate) fn count_between(self, from: u32, past: u32) -> usize
-        ensures { result ≡ count_of (between from past) (keys_of self.entry.points.now) }
+        ensures { result ≡ count_of (between from past) self.entry.keys.now }
     {
         if past <= from {
             return 0;
@@ -155,65 +175,56 @@ impl<'a> OrderedPoints<'a> {
         let j = self.first_from(past);
         j - i
     }
+}
 
+impl<'a> TrackPoints<'a> {
     // The first key from `from` on and below `past`, as a coordinate of the track. It and the next look to either side of `first_from`, so that one
     // function for both would ask the side at each step.
-    fn first_between(self, track: u32, from: u32, past: u32) -> Option<Coordinate>
-        requires stride_bound { track * stride ≤ from }
-        requires track_lt_track_count { track < track_count }
-        ensures { result ≡ find_first (between from past) track (keys_of self.entry.points.now) }
+    fn first_between(self, from: u32, past: u32) -> Option<Coordinate>
+        requires stride_bound { self.track * stride ≤ from }
+        ensures { result ≡ find_first (between from past) self.entry.track self.entry.points.keys.now }
     {
-        let i = self.first_from(from);
-        if self.points.count <= i {
-            return None;
-        }
-        let k = self.points.keys[i];
+        let i = self.points.first_from(from);
+        let k = *self.points.keys.get(i)?;
         if past <= k {
             return None;
         }
-        Some(Coordinate(k - track * Points::STRIDE))
+        Some(Coordinate(k - self.track * Points::STRIDE))
     }
 
     // The last key from `from` on and below `past`, as a coordinate of the track.
-    fn last_between(self, track: u32, from: u32, past: u32) -> Option<Coordinate>
-        requires stride_bound { track * stride ≤ from }
-        requires track_lt_track_count { track < track_count }
-        ensures { result ≡ find_last (between from past) track (keys_of self.entry.points.now) }
+    fn last_between(self, from: u32, past: u32) -> Option<Coordinate>
+        requires stride_bound { self.track * stride ≤ from }
+        ensures { result ≡ find_last (between from past) self.entry.track self.entry.points.keys.now }
     {
-        let i = self.first_from(past);
-        if i == 0 {
-            return None;
-        }
-        let k = self.points.keys[i - 1];
+        let i = self.points.first_from(past);
+        let k = *self.points.keys[..i].last()?;
         if k < from {
             return None;
         }
-        Some(Coordinate(k - track * Points::STRIDE))
+        Some(Coordinate(k - self.track * Points::STRIDE))
     }
 
-    // What stands at a position of a track, and the nearest point strictly further on in a direction, within start to end.
+    // What stands at a position, and the nearest point strictly further on in a direction, within start to end.
     pub(crate) fn look_up(
         self,
-        track: u32,
         position: Coordinate,
         backward: bool,
         start: Coordinate,
         end: Coordinate,
     ) -> Lookup
-        requires track_lt_track_count { (track < track_count) × (position.0 ≤ coordinate_last) × (start.0 ≤ coordinate_last) × (end.0 ≤ coordinate_last) }
-        ensures info { result.info ≡ info_at (key track position.0) (keys_of self.entry.points.now) (infos_of self.entry.points.now) }
-        ensures near { result.near ≡ nearest backward track position.0 start.0 end.0 (keys_of self.entry.points.now) }
+        requires inside { (position.0 ≤ coordinate_last) × (start.0 ≤ coordinate_last) × (end.0 ≤ coordinate_last) }
+        ensures info { result.info ≡ info_at (key self.entry.track position.0) self.entry.points.keys.now self.entry.points.infos.now }
+        ensures near { result.near ≡ nearest backward self.entry.track position.0 start.0 end.0 self.entry.points.keys.now }
     {
-        let base = track * Points::STRIDE;
+        let base = self.track * Points::STRIDE;
         let here = base + position.0;
-        let info = self.info_at(here);
-        if backward {
-            let low = base + start.0;
-            let near = self.last_between(track, low, here);
-            return Lookup { info, near };
-        }
-        let past = base + end.0 + 1;
-        let near = self.first_between(track, here + 1, past);
+        let info = self.points.info_at(here);
+        let near = if backward {
+            self.last_between(base + start.0, here)
+        } else {
+            self.first_between(here + 1, base + end.0 + 1)
+        };
         Lookup { info, near }
     }
 }
@@ -233,24 +244,28 @@ impl Point {
     pub const END: u32 = 16777216;
 
     // The key of a point.
+    #[tactic(auto, unfolding(crate::specs::Points::key_of))]
     pub(crate) fn key(self) -> u32
         requires { (self.track < track_count) × (self.position.0 ≤ coordinate_last) }
         ensures { result ≡ key_of self }
     {
-        self.track as u32 * Points::STRIDE + self.position.0
+        u32::from(self.track) * Points::STRIDE + self.position.0
     }
 
     // What else a point has, as one number.
+    #[tactic(auto, unfolding(crate::specs::Points::info_of))]
     pub(crate) fn info(self) -> u32
         requires { (self.wait ≤ 1) × (self.command ≤ 4) × (self.target < track_count) }
         ensures { result ≡ info_of self }
     {
-        let flag = self.wait as u32 * Point::WAIT;
-        let rest = self.command as u32 * Point::COMMAND + self.target as u32 * Point::TARGET;
-        self.event as u32 + flag + rest
+        let flag = u32::from(self.wait) * Point::WAIT;
+        let rest = u32::from(self.command) * Point::COMMAND
+            + u32::from(self.target) * Point::TARGET;
+        u32::from(self.event) + flag + rest
     }
 
     // A point from its two numbers.
+    #[tactic(auto, unfolding(crate::specs::Points::point_of))]
     pub(crate) fn of(wanted: u32, info: u32) -> Point
         requires { (wanted < key_end) × (info < info_end) }
         ensures { result ≡ point_of wanted info }

@@ -1,10 +1,10 @@
 // What can be asked of a board.
-ghost use Rattle.std.specs.Prelude.{◌≡◌, ◌-◌};
+ghost use Rattle.std.specs.Prelude.{◌-◌};
 ghost use Rattle.board.specs.Call.{Leaves, clock_said, track_said, point_said, count_said};
 ghost use Rattle.board.specs.declared.call.Call.TheVariants as call;
 
 use crate::Board;
-use crate::points::{OrderedPoints, Point, Points};
+use crate::points::{Point, Points};
 use track::number::clamped;
 use track::refusal::Refusal;
 use track::{Coordinate, Ticks, Track};
@@ -34,10 +34,7 @@ impl Board {
         let i = self.found(track)?;
         let l = Coordinate::try_from(position).map_err(|_| Refusal::Point)?;
         let wanted = i * Points::STRIDE + l.0;
-        let points = OrderedPoints {
-            points: &self.points,
-        };
-        let info = points.info_at(wanted);
+        let info = self.points.ordered().info_at(wanted);
         if info == 0 {
             return Err(Refusal::Point);
         }
@@ -52,9 +49,7 @@ impl Board {
         let base = self.found(track)? * Points::STRIDE;
         let past = base + clamped(to);
         let low = base + clamped(from).saturating_sub(1);
-        let points = OrderedPoints {
-            points: &self.points,
-        };
-        Ok(points.count_between(low, past) as u64)
+        let count = self.points.ordered().count_between(low, past);
+        Ok(count as u64)
     }
 }

@@ -5,39 +5,16 @@ ghost use Rattle.board.specs.Call.{LeavesAs};
 ghost use Rattle.board.specs.declared.call.Call.TheVariants as call;
 
 use crate::Board;
+use crate::call::PointNumbers;
 use crate::points::{Point, Points};
-use crate::rules::{allowed, is_present, with_track};
+use crate::rules::with_track;
 use track::number::in_range;
 use track::refusal::Refusal;
 use track::setup::{Change, settled};
 use track::{Coordinate, Track};
 
-// The point that the numbers of a call describe for a track.
-fn describe(
-    present: u16,
-    track: u8,
-    owner: Track,
-    position: i64,
-    event: i64,
-    wait: i64,
-    command: i64,
-    target: i64,
-) -> Option<Point>
-    ensures { result ≡ described_by present track owner position event wait command target }
-{
-    let p = Point {
-        track,
-        position: Coordinate::between(position, owner.min, owner.max).ok()?,
-        event: in_range(event, 1, Track::EVENT)? as u16,
-        wait: in_range(wait, 0, 1)? as u8,
-        command: in_range(command, 0, 4)? as u8,
-        target: in_range(target, 0, Board::LAST)? as u8,
-    };
-    if allowed(present, p) { Some(p) } else { None }
-}
-
 impl Board {
-    // A set-up change of a track: start, end, loops, repeat, direction, action or jump.
+    // A set-up change of a track: start, end, loops, repeat, direction, action, jump or rate.
     pub fn set_up(mut self, track: i64, change: Change) -> Result<Board, Refusal>
         ensures { LeavesAs (call.SetUp track change) self result }
     {
@@ -53,12 +30,12 @@ impl Board {
     {
         self.checked()?;
         let i = in_range(number, 0, Board::LAST).ok_or(Refusal::Track)?;
-        if is_present(self.present, i) {
+        if self.is_present(i) {
             return Err(Refusal::Present);
         }
         let low = Coordinate::try_from(min)?;
         let high = Coordinate::try_from(max)?;
-        if high.0 <= low.0 {
+        if high <= low {
             return Err(Refusal::Value);
         }
         self.tracks[i as usize] = Track::new(low, high);
@@ -66,17 +43,24 @@ impl Board {
         Ok(self)
     }
 
+    // The point that the numbers of a call describe for a track.
+    fn describe(&self, track: u8, owner: Track, given: PointNumbers) -> Option<Point>
+        ensures { result ≡ described_by self.now.present track owner given }
+    {
+        let p = Point {
+            track,
+            position: Coordinate::between(given.position, owner.min, owner.max).ok()?,
+            event: in_range(given.event, 1, Track::EVENT)? as u16,
+            wait: in_range(given.wait, 0, 1)? as u8,
+            command: in_range(given.command, 0, 4)? as u8,
+            target: in_range(given.target, 0, Board::LAST)? as u8,
+        };
+        if self.allowed(p) { Some(p) } else { None }
+    }
+
     // A point is set, or another in its place.
-    pub fn set_point(
-        mut self,
-        track: i64,
-        position: i64,
-        event: i64,
-        wait: i64,
-        command: i64,
-        target: i64,
-    ) -> Result<Board, Refusal>
-        ensures { LeavesAs (call.SetPoint track position event wait command target) self result }
+    pub fn set_point(mut self, track: i64, given: PointNumbers) -> Result<Board, Refusal>
+        ensures { LeavesAs (call.SetPoint track given) self result }
     {
         self.checked()?;
         let i = self.found(track)?;
@@ -84,17 +68,7 @@ impl Board {
         if !settled(owner.mode) {
             return Err(Refusal::Mode);
         }
-        let p = describe(
-            self.present,
-            i as u8,
-            owner,
-            position,
-            event,
-            wait,
-            command,
-            target,
-        )
-        .ok_or(Refusal::Value)?;
+        let p = self.describe(i as u8, owner, given).ok_or(Refusal::Value)?;
         self.points = self.points.stored(p.key(), p.info()).ok_or(Refusal::Full)?;
         Ok(self)
     }

@@ -1,14 +1,15 @@
 // What a tick gathers apart from the log and the board: the records that it writes, and the infos of the points that it reaches.
-ghost use Rattle.std.specs.Prelude.{◌≡◌, ℕ, ◌+◌, ◌*◌, ◌≤◌, ◌<◌, List, [], ◌++◌, length, take};
+ghost use Rattle.std.specs.Prelude.{◌≡◌, ℕ, ◌+◌, ◌*◌, ◌≤◌, ◌<◌, List, [], ◌++◌, length, map, take};
 ghost use Rattle.board.specs.Log.{write_at, log_bytes, record_width};
-ghost use Rattle.board.specs.Tick.{listed, reached_by, tick_most, Room};
+ghost use Rattle.board.specs.Tick.{listed, info_number, reached_by, tick_most, Room};
 ghost use Rattle.board.specs.Points.{track_count};
 
 use crate::Board;
+use crate::info::Info;
 use crate::log::{Record, put_record};
 use std::marker::Model;
 
-// The records of a tick, as bytes behind one another.
+// The records of a tick, as bytes behind one another. With the kit's `ArrayVec`, of bytes, rows or records, a dense board took up to 1.8 times as long.
 #[derive(Drop)]
 pub struct Staged {
     count: usize,
@@ -52,7 +53,8 @@ impl Staged {
         self.count
     }
 
-    // A record, if there is one, goes behind the others.
+    // A record, if there is one, goes behind the others. How much room a part of a tick needs is a clause of it and no field of the stage,
+    // which changes while it is lent.
     pub(crate) fn put(&mut self, noted: Option<Record>)
         requires { Room 1 self.old }
         ensures { self.new ≡ self.old ++ log_bytes (listed noted) }
@@ -73,18 +75,19 @@ impl Staged {
     }
 }
 
-// The infos of the points that a tick's steps reach, in their order: at most one for each track.
+// The infos of the points that a tick's steps reach, in their order: at most one for each track. No `ArrayVec`: its unused places
+// want a default, and no info is one.
 #[derive(Drop)]
 pub struct Reached {
     count: usize,
-    infos: [u32; Board::TRACKS],
+    infos: [Info; Board::TRACKS],
 }
 
-// Clauses see the infos.
+// Clauses see their numbers.
 impl Model for Reached {
     ghost Value = { List ℕ };
 
-    ghost view = { λ r. take r.count r.infos };
+    ghost view = { λ r. map (λ d. d.number) (take r.count r.infos) };
 
     ghost invariant = { λ r. r.count ≤ track_count };
 }
@@ -93,9 +96,11 @@ impl Reached {
     pub(crate) fn new() -> Self
         ensures { result ≡ [] }
     {
+        // Past the count any info may stand.
+        let any = Info { number: 1 };
         Reached {
             count: 0,
-            infos: [0; Board::TRACKS],
+            infos: [any; Board::TRACKS],
         }
     }
 
@@ -105,19 +110,19 @@ impl Reached {
         self.count = 0;
     }
 
-    // One more info, if it is a point's.
-    pub(crate) fn note(&mut self, d: u32)
+    // One more info, if there is one.
+    pub(crate) fn note(&mut self, noted: Option<Info>)
         requires { length self.old < track_count }
-        ensures { self.new ≡ self.old ++ reached_by d }
+        ensures { self.new ≡ self.old ++ reached_by (info_number noted) }
     {
-        if d != 0 {
+        if let Some(d) = noted {
             self.infos[self.count] = d;
             self.count += 1;
         }
     }
 
-    pub(crate) fn infos(&self) -> &[u32]
-        ensures { result.now ≡ self.now }
+    pub(crate) fn infos(&self) -> &[Info]
+        ensures { map (λ d. d.number) result.now ≡ self.now }
     {
         &self.infos[..self.count]
     }

@@ -32,8 +32,8 @@ pub(crate) fn stay(x: u64, y: u64, w: u64, g: u64, h: u64, range: Range) -> Tick
     }
 }
 
-// The first number gains v on the second in each tick. The numbers stay by themselves: each call passes on other ones, and a struct
-// of them would be taken apart in every line below.
+// The first number gains v on the second in each tick. The numbers stay by themselves: `stay` passes on others, and a struct of them
+// would be taken apart in every line below.
 fn gaining(x: u64, y: u64, w: u64, v: u64, range: Range) -> Ticks
     requires { Asked sum_most x y w v range.least range.greatest }
     ensures { Stays x y w v 0 range.least range.greatest result.0 }

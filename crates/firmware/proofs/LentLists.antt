@@ -288,7 +288,7 @@ by_call : (κs : Lfts 1) (c : Call) {cs : List Call} (w : World Board) {xs : Lis
 unfolding run_count says_of
 by_call κs (call.AddTrack i lo hi) w t = by-door κs w (pos 1 ∷ i ∷ lo ∷ hi ∷ [], refl) t
 by_call κs (call.SetUp i c) w t = by-door κs w (rowed i c) t
-by_call κs (call.SetPoint i p e f c g) w t = by-door κs w (pos 7 ∷ i ∷ p ∷ e ∷ f ∷ c ∷ g ∷ [], refl) t
+by_call κs (call.SetPoint i p) w t = by-door κs w (pos 7 ∷ i ∷ p.position ∷ p.event ∷ p.wait ∷ p.command ∷ p.target ∷ [], refl) t
 by_call κs (call.DropPoint i p) w t = by-door κs w (pos 8 ∷ i ∷ p ∷ [], refl) t
 by_call κs (call.Play i) w t = by_mode κs w plays i PLAY refl t
 by_call κs (call.Pause i) w t = by_mode κs w pauses i PAUSE refl t

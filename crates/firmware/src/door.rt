@@ -1,5 +1,4 @@
 // One door for every call and query but master by its row of numbers, one for master, and one for an encoded list of calls.
-ghost use Rattle.std.specs.Prelude.{◌≡◌};
 ghost use Rattle.board.specs.Call.{world};
 ghost use Rattle.board.specs.Row.{call_of, row_does};
 ghost use Rattle.board.specs.Lists.{Executed};
@@ -33,7 +32,7 @@ pub extern "C" fn gridstep_call(
 ) -> Replied
     ensures { RowGives (row_does (call_of code x1 x2 x3 x4 x5 x6) (world b log.old)) result log.new }
 {
-    let r = answer(b, call_of(code, x1, x2, x3, x4, x5, x6), log);
+    let r = answer(b, call_of(code, [x1, x2, x3, x4, x5, x6]), log);
     Replied {
         board: r.board,
         reply: reply_row(r.told),

@@ -30,8 +30,7 @@ fn mode_call(b: &mut Board, track: i64, call: u8, log: &mut [u8]) -> u32
 {
     match change_mode(b, track, call, log) {
         Ok(change) => {
-            b.tracks[change.at] = change.track;
-            b.held = change.held;
+            change.store(b);
             0
         }
         Err(refusal) => refusal as u32,
@@ -39,6 +38,7 @@ fn mode_call(b: &mut Board, track: i64, call: u8, log: &mut [u8]) -> u32
 }
 
 // Each mode call answers 0 if it is accepted, else the refusal's number.
+#[tactic(auto, unfolding(board::specs::Call::mode_does, board::specs::Call::run_count, board::specs::Call::says_of, board::specs::Call::makes_of))]
 #[unsafe(no_mangle)]
 pub extern "C" fn gridstep_play(b: &mut Board, track: i64, log: &mut [u8]) -> u32
     ensures { Gives (does (call.Play track) (world b.old log.old)) (number_said result) b.new log.new }
@@ -46,6 +46,7 @@ pub extern "C" fn gridstep_play(b: &mut Board, track: i64, log: &mut [u8]) -> u3
     mode_call(b, track, 1, log)
 }
 
+#[tactic(auto, unfolding(board::specs::Call::mode_does, board::specs::Call::run_count, board::specs::Call::says_of, board::specs::Call::makes_of))]
 #[unsafe(no_mangle)]
 pub extern "C" fn gridstep_pause(b: &mut Board, track: i64, log: &mut [u8]) -> u32
     ensures { Gives (does (call.Pause track) (world b.old log.old)) (number_said result) b.new log.new }
@@ -53,6 +54,7 @@ pub extern "C" fn gridstep_pause(b: &mut Board, track: i64, log: &mut [u8]) -> u
     mode_call(b, track, 2, log)
 }
 
+#[tactic(auto, unfolding(board::specs::Call::mode_does, board::specs::Call::run_count, board::specs::Call::says_of, board::specs::Call::makes_of))]
 #[unsafe(no_mangle)]
 pub extern "C" fn gridstep_resume(b: &mut Board, track: i64, log: &mut [u8]) -> u32
     ensures { Gives (does (call.Resume track) (world b.old log.old)) (number_said result) b.new log.new }
@@ -60,6 +62,7 @@ pub extern "C" fn gridstep_resume(b: &mut Board, track: i64, log: &mut [u8]) -> 
     mode_call(b, track, 3, log)
 }
 
+#[tactic(auto, unfolding(board::specs::Call::mode_does, board::specs::Call::run_count, board::specs::Call::says_of, board::specs::Call::makes_of))]
 #[unsafe(no_mangle)]
 pub extern "C" fn gridstep_stop(b: &mut Board, track: i64, log: &mut [u8]) -> u32
     ensures { Gives (does (call.Stop track) (world b.old log.old)) (number_said result) b.new log.new }
@@ -72,9 +75,6 @@ pub extern "C" fn gridstep_advance(b: &mut Board, count: i64, log: &mut [u8]) ->
     ensures { Gives (does (call.Advance count) (world b.old log.old)) (ending_said result) b.new log.new }
 {
     let left = proceed(b, count, log);
-    let tracks = left.tracks;
-    b.tracks = tracks;
-    b.clock = left.clock;
-    b.held = left.held as u64;
+    left.store(b);
     Ending::from(left.answer)
 }

@@ -5,7 +5,7 @@
 ghost use Rattle.std.specs.Prelude.{◌≤◌, [], length};
 ghost use Rattle.script.specs.Run.{Went};
 
-use script::output::{end_line, show};
+use script::output::{Shown, end_line, show};
 use script::run::Session;
 use script::text::Out;
 use std::io::Read;
@@ -66,13 +66,14 @@ impl<P: Print> Printer<'_, P> {
     // Prints the held records.
     fn print_records(&mut self, held: u64, log: &[u8]) {
         // No `for`: each turn goes on where `show` stopped.
-        let mut at: usize = 0;
-        let mut left = held;
-        while 0 < left {
-            let shown = show(log, at, left, &mut self.buffer);
+        let mut shown = Shown {
+            at: 0,
+            left: held,
+            used: 0,
+        };
+        while 0 < shown.left {
+            shown = show(log, shown.at, shown.left, &mut self.buffer);
             self.print(shown.used);
-            at = shown.at;
-            left = shown.left;
         }
     }
 }

@@ -7,13 +7,13 @@ use crate::lines::LINE;
 use crate::number::read_number;
 use crate::word::form_of;
 use board::call::Call;
-use board::row::call_of;
+use board::row::{CALL_NUMBERS, call_of};
 
 // A call's code, its numbers, and zeros behind them.
 #[derive(Clone, Copy)]
 pub struct Row {
     pub code: usize,
-    pub numbers: [i64; 6],
+    pub numbers: [i64; CALL_NUMBERS],
 }
 
 // The row of a text: a word, and just as many numbers as its form has.
@@ -23,7 +23,7 @@ fn read_row(text: &[u8]) -> Option<Row>
 {
     let mut fields = text.split(|byte| *byte == b',');
     let form = form_of(fields.next()?)?;
-    let mut numbers = [0; 6];
+    let mut numbers = [0; CALL_NUMBERS];
     for number in &mut numbers[..form.count] {
         *number = read_number(fields.next()?)?;
     }
@@ -41,15 +41,7 @@ fn call_row(read: Row) -> Option<Call>
     requires { read.code ≤ 16 }
     ensures { result ≡ plain_at (pos read.code ∷ read.numbers) }
 {
-    call_of(
-        read.code as i64,
-        read.numbers[0],
-        read.numbers[1],
-        read.numbers[2],
-        read.numbers[3],
-        read.numbers[4],
-        read.numbers[5],
-    )
+    call_of(read.code as i64, read.numbers)
 }
 
 // The call of a line without its LF.

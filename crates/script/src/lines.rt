@@ -9,7 +9,8 @@ pub const LINE: usize = 64;
 // Bytes of a line that are kept: one more than a line has at most, which tells that it is too long.
 pub const KEPT: usize = LINE + 1;
 
-// A line that is being read: its number, and the first of its bytes, in fixed memory since there is no heap for a `Vec`.
+// A line that is being read: its number, and the first of its bytes, in fixed memory since there is no heap for a `Vec`. No `ArrayVec`,
+// which is not Copy, as a session is; and no `ArrayString`, since an input may have any bytes.
 #[derive(Clone, Copy)]
 pub struct Reader {
     pub line: u64,
@@ -52,14 +53,15 @@ impl Reader {
     }
 
     // Bytes more of the line, of which as many are kept as there is room for.
+    #[tactic(auto, using(crate::proofs::lines::Pieces::kept_put))]
     fn keep(&mut self, more: &[u8])
         ensures kept { kept_by self.new ≡ take kept_most (kept_by self.old ++ more.now) }
         ensures same { self.new.line ≡ self.old.line }
     {
-        let from = self.length.min(KEPT);
-        let count = more.len().min(KEPT - from);
-        self.bytes[from..from + count].copy_from_slice(&more[..count]);
-        self.length = from + count;
+        let from = self.kept().len();
+        let end = KEPT.min(from + more.len());
+        self.bytes[from..end].copy_from_slice(&more[..end - from]);
+        self.length = end;
     }
 
     // Reads on from `at` to the end of the line, and gives the place behind it; none is given where the piece ends first.

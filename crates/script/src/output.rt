@@ -1,7 +1,7 @@
 // The lines that the runner prints (01, "Script lines").
-ghost use Rattle.std.specs.Prelude.{◌≡◌, ◌≤◌};
+ghost use Rattle.std.specs.Prelude.{◌≡◌};
 ghost use Rattle.board.specs.Call.{reply_of};
-ghost use Rattle.script.specs.Output.{refused_line, short_line, end_line, record_head, record_line, note_of, unpacked_line, Shows};
+ghost use Rattle.script.specs.Output.{refused_line, short_line, end_line, record_line, note_of, unpacked_line, Shows};
 ghost use Rattle.script.specs.Text.{text_of};
 ghost use Rattle.board.specs.Log.{record_values, unpack_of};
 
@@ -16,9 +16,9 @@ pub fn refused_line(line: u64, number: u8) -> Out
     ensures { text_of result ≡ refused_line line number }
 {
     let mut o = Out::new();
-    o.push(b"refused,");
-    o.number(line, b',');
-    o.number(u64::from(number), b'\n');
+    o.push("refused,");
+    o.number(line, ",");
+    o.number(u64::from(number), "\n");
     o
 }
 
@@ -31,10 +31,10 @@ pub fn short_line(line: u64, taken: Ticks, reason: u8) -> Out
     ensures { text_of result ≡ short_line line taken.0 reason }
 {
     let mut o = Out::new();
-    o.push(b"short,");
-    o.number(line, b',');
-    o.number(u64::from(taken.0), b',');
-    o.number(u64::from(reason), b'\n');
+    o.push("short,");
+    o.number(line, ",");
+    o.number(u64::from(taken.0), ",");
+    o.number(u64::from(reason), "\n");
     o
 }
 
@@ -42,31 +42,23 @@ pub fn end_line(clock: Ticks, held: u64) -> Out
     ensures { text_of result ≡ end_line clock.0 held }
 {
     let mut o = Out::new();
-    o.push(b"end,");
-    o.number(u64::from(clock.0), b',');
-    o.number(held, b'\n');
-    o
-}
-
-// A record's numbers but for its position and passes.
-fn record_head(r: Record) -> Out
-    ensures { (text_of result ≡ record_head (record_values r)) × (result.length ≤ 105) }
-{
-    let mut o = Out::new();
-    o.number(u64::from(r.clock.0), b',');
-    o.number(u64::from(r.track), b',');
-    o.number(u64::from(r.kind), b',');
-    o.number(u64::from(r.event), b',');
-    o.number(u64::from(r.detail), b',');
+    o.push("end,");
+    o.number(u64::from(clock.0), ",");
+    o.number(held, "\n");
     o
 }
 
 pub fn record_line(r: Record) -> Out
     ensures { text_of result ≡ record_line (record_values r) }
 {
-    let mut o = record_head(r);
-    o.position(r.position);
-    o.number(u64::from(r.passes.0), b'\n');
+    let mut o = Out::new();
+    o.number(u64::from(r.clock.0), ",");
+    o.number(u64::from(r.track), ",");
+    o.number(u64::from(r.kind), ",");
+    o.number(u64::from(r.event), ",");
+    o.number(u64::from(r.detail), ",");
+    o.position(r.position, ",");
+    o.number(u64::from(r.passes.0), "\n");
     o
 }
 
@@ -101,6 +93,7 @@ fn unpacked_line(bytes: &[u8]) -> Out
 }
 
 // So many records from a place of the log on are written as long as the buffer has room for a line.
+#[tactic(auto, using(crate::proofs::output::Showing::showing))]
 pub fn show(log: &[u8], from: usize, count: u64, out: &mut [u8]) -> Shown
     ensures { Shows log.now from count result out.old out.new }
 {

@@ -13,11 +13,11 @@ use lib.Seq.{drop-cons}
 use borrow.Author.Tests.{eqb-true, leb-true, le-leb, eq-eqb, ne_eqb}
 use Rattle.track.specs.declared.Track.{Track}
 use Rattle.track.specs.declared.Ticks.{Ticks}
-use Rattle.track.specs.Rule.{STOPPED, threshold_count, threshold_most, event_most, Sound, moved, stopped, with_remainder, entered}
+use Rattle.track.specs.Rule.{STOPPED, threshold_count, threshold_most, event_most, Sound, moved, with_remainder, entered}
 use Rattle.track.specs.Walk.{stops, visited, step}
 use Rattle.track.specs.Stride.{stride}
-use Rattle.track.specs.Leap.{moves, remainder_left, played, steps_in, remainder_after, leap}
-use Rattle.track.specs.Follow.{up_to_zero, thresholds_of, distance, apart, band_of, judged, banded, following, zeros_test, pairs_test, Follower, follower_test}
+use Rattle.track.specs.Leap.{moves, remainder_left, played, leap}
+use Rattle.track.specs.Follow.{up_to_zero, thresholds_of, distance, apart, band_of, judged, banded, zeros_test, pairs_test, Follower, follower_test}
 use Rattle.track.proofs.Tests.{cond_cases, every_of, every-is}
 
 -- ---- a row of thresholds up to its first 0: how many there are, and the band of a drift
@@ -129,37 +129,26 @@ then-follower p q =
       events = q.events ∙ p.events;
     }
 
--- so has a track in another mode, at another position
-moved-follower : (t : Track) (mode position passes due : ℕ) → SameFollower t (moved t mode position passes due)
-moved-follower t mode position passes due = record { master = refl; band = refl; thresholds = refl; events = refl }
-
--- and one that is stopped, or has another remainder
-stopped-follower : (t : Track) → SameFollower t (stopped t)
-stopped-follower t = record { master = refl; band = refl; thresholds = refl; events = refl }
-
-remainder-follower : (t : Track) (r : ℕ) → SameFollower t (with_remainder t r)
-remainder-follower t r = record { master = refl; band = refl; thresholds = refl; events = refl }
+-- so has a track in another mode, at another position, with another remainder
+moved-follower : {t : Track} {mode position passes due remainder : ℕ} → SameFollower t (with_remainder (moved t mode position passes due) remainder)
+moved-follower = record { master = refl; band = refl; thresholds = refl; events = refl }
 
 pub entered-follower : (t : Track) (m : ℕ) → SameFollower t (entered t m)
 unfolding entered
-entered-follower t m = cond_cases (SameFollower t) (eqb m STOPPED) (λ e. stopped-follower t) (λ e. moved-follower t _ _ _ _)
+entered-follower t m = cond_cases (SameFollower t) (eqb m STOPPED) (λ e. moved-follower) (λ e. moved-follower)
 
 pub step-follower : (t : Track) (w : Bool) → SameFollower t (step t w)
 unfolding step visited
-step-follower t w = cond_cases (SameFollower t) (stops t) (λ e. stopped-follower t) (λ e. moved-follower t _ _ _ _)
-
-pub stride-follower : (t : Track) (n : ℕ) → SameFollower t (stride t n)
-unfolding stride
-stride-follower t n = moved-follower t _ _ _ _
+step-follower t w = cond_cases (SameFollower t) (stops t) (λ e. moved-follower) (λ e. moved-follower)
 
 pub leap-follower : (t : Track) (n : ℕ) → SameFollower t (leap t n)
-unfolding leap
-leap-follower t n = then-follower (stride-follower t (steps_in t n)) (remainder-follower (stride t (steps_in t n)) (remainder_after t n))
+unfolding leap stride
+leap-follower t n = moved-follower
 
 pub played-follower : (t : Track) (w : Bool) → SameFollower t (played t w)
 unfolding played
 played-follower t w =
-    let r = remainder-follower t (remainder_left t) in
+    let r : SameFollower t (with_remainder t (remainder_left t)) = moved-follower in
     cond_cases (SameFollower t) (moves t) (λ e. then-follower r (step-follower (with_remainder t (remainder_left t)) w)) (λ e. r)
 
 -- a track with the same of them keeps the rules, and at a later clock
@@ -194,29 +183,10 @@ follower-banded k c l f =
       start = λ z. absurd (omega arith);
     }
 
--- a track with another band is as sound as it was
-pub banded-sound : {t : Track} {clock : Ticks} (k : ℕ) → Sound t clock → Sound (banded t k) clock
-banded-sound k s =
-    let v = s.valid in
-    record {
-      valid =
-          record {
-            ordered = v.ordered;
-            loops = v.loops;
-            mode = v.mode;
-            direction = v.direction;
-            repeat = v.repeat;
-            due = v.due;
-            cells = v.cells;
-            rate = v.rate;
-          };
-      passes = s.passes;
-    }
-
--- and so it is with another master
-pub following-sound : {t : Track} {clock : Ticks} (master : ℕ) (thresholds events : List ℕ) → Sound t clock →
-    Sound (following t master thresholds events) clock
-following-sound master thresholds events s =
+-- a track with another master, another band, other thresholds and events is as sound as it was
+pub follower-sound : {t : Track} {clock : Ticks} {master band : ℕ} {thresholds events : List ℕ} → Sound t clock →
+    Sound (record t { master = master; band = band; thresholds = thresholds; events = events }) clock
+follower-sound s =
     let v = s.valid in
     record {
       valid =

@@ -14,7 +14,7 @@ use Rattle.track.specs.declared.Track.{Track}
 use Rattle.track.specs.declared.Coordinate.{Coordinate}
 use Rattle.track.specs.declared.setup.Change.{Change}
 use Rattle.track.specs.declared.setup.Change.TheVariants as change
-use Rattle.track.specs.Rule.{STOPPED, BACKWARD, REPEATING, DUE, loops_most, rate_most, cell_count, cell_most, events_test, Ordered, Valid, Cells, new_track, moved, rewound}
+use Rattle.track.specs.Rule.{STOPPED, BACKWARD, REPEATING, DUE, loops_most, rate_most, cell_count, cell_most, events_test, Ordered, Valid, Cells, Rated, new_track, moved, rewound}
 use Rattle.track.specs.Number.{natural_of, coordinate_of, within, on_some}
 use Rattle.track.specs.Setup.{Changed, refused, set_to, turned, closes, turned_to, start_set, end_set, loops_set, repeat_set, direction_set, action_set, jump_to, rate_set, set_by, permits, changed_by}
 use Rattle.track.proofs.Tests.{cond_cases}
@@ -95,18 +95,6 @@ set-cells l a b e ha hb he n d =
     }
 
 module _ (t : Track) (v : Valid t) where
-  -- a span set anew, rewound
-  spanned : (u : Track) → Valid (rewound u) → u.min ≡ t.min → u.max ≡ t.max → u.mode ≡ t.mode → SameFollower t (rewound u) →
-      Keeps t (rewound u)
-  spanned u w a b m f = record { valid = w; min = a; max = b; mode = m; passes = omega arith; follower = f }
-
-  -- a span, a loop count, a repeat flag or a direction does not make another follower
-  set-follower : (start end : Coordinate) (loops repeat direction : ℕ) → SameFollower t (set_to t start end loops repeat direction)
-  set-follower start end loops repeat direction = record { master = refl; band = refl; thresholds = refl; events = refl }
-
-  rewound-follower : (start end : Coordinate) (loops repeat direction : ℕ) → SameFollower t (rewound (set_to t start end loops repeat direction))
-  rewound-follower start end loops repeat direction = record { master = refl; band = refl; thresholds = refl; events = refl }
-
   rewound-valid : (start end : Coordinate) (direction : ℕ) → direction ≤ BACKWARD → t.min.0 ≤ start.0 → start.0 < end.0 →
       end.0 ≤ t.max.0 → Valid (rewound (set_to t start end t.loops t.repeat direction))
   rewound-valid start end direction d a b c =
@@ -130,28 +118,38 @@ module _ (t : Track) (v : Valid t) where
             };
       }
 
+  -- a span or a direction set anew, and rewound
+  rewound-keeps : (start end : Coordinate) (direction : ℕ) → direction ≤ BACKWARD → t.min.0 ≤ start.0 → start.0 < end.0 →
+      end.0 ≤ t.max.0 → Keeps t (rewound (set_to t start end t.loops t.repeat direction))
+  rewound-keeps start end direction d a b c =
+      record {
+        valid = rewound-valid start end direction d a b c;
+        min = refl;
+        max = refl;
+        mode = refl;
+        passes = omega arith;
+        follower = record { master = refl; band = refl; thresholds = refl; events = refl };
+      }
+
   start-keeps : (p : ℤ) → Keeps t (start_set t p).track
   unfolding start_set
   start-keeps p =
       on-place (Keeps t) t t.min.0 t.max.0 (coordinate_of p) _ (same t v)
       (λ c low high. cond_cases (λ (r : Changed). Keeps t r.track) (ltb c.0 t.end.0)
-      (λ e. spanned (set_to t c t.end t.loops t.repeat t.direction)
-      (rewound-valid c t.end t.direction v.direction low (ltb-true _ _ e) (omega arith)) refl refl refl (rewound-follower c t.end t.loops t.repeat t.direction))
-      (λ _. same t v))
+      (λ e. rewound-keeps c t.end t.direction v.direction low (ltb-true _ _ e) (omega arith)) (λ _. same t v))
 
   end-keeps : (p : ℤ) → Keeps t (end_set t p).track
   unfolding end_set
   end-keeps p =
       on-place (Keeps t) t t.min.0 t.max.0 (coordinate_of p) _ (same t v)
       (λ c low high. cond_cases (λ (r : Changed). Keeps t r.track) (ltb t.start.0 c.0)
-      (λ e. spanned (set_to t t.start c t.loops t.repeat t.direction)
-      (rewound-valid t.start c t.direction v.direction (omega arith) (ltb-true _ _ e) high) refl refl refl
-      (rewound-follower t.start c t.loops t.repeat t.direction)) (λ _. same t v))
+      (λ e. rewound-keeps t.start c t.direction v.direction (omega arith) (ltb-true _ _ e) high) (λ _. same t v))
 
-  -- loops, repeat and direction leave the walk where it is
-  set_keeps : (loops repeat direction : ℕ) → (1 ≤ loops) × (loops ≤ loops_most) → repeat ≤ REPEATING → direction ≤ BACKWARD →
-      Keeps t (set_to t t.start t.end loops repeat direction)
-  set_keeps loops repeat direction l r d =
+  -- loops, repeat, direction, actions and rate leave the walk where it is
+  set_keeps : {loops repeat direction steps ticks : ℕ} {actions : List ℕ} → (1 ≤ loops) × (loops ≤ loops_most) → repeat ≤ REPEATING →
+      direction ≤ BACKWARD → Cells actions → Rated steps ticks t.remainder t.mode →
+      Keeps t (record t { loops = loops; repeat = repeat; direction = direction; actions = actions; steps = steps; ticks = ticks })
+  set_keeps l r d a q =
       record {
         valid =
             record {
@@ -161,23 +159,23 @@ module _ (t : Track) (v : Valid t) where
               direction = d;
               repeat = r;
               due = v.due;
-              cells = v.cells;
-              rate = v.rate;
+              cells = a;
+              rate = q;
             };
         min = refl;
         max = refl;
         mode = refl;
         passes = omega arith;
-        follower = set-follower t.start t.end loops repeat direction;
+        follower = record { master = refl; band = refl; thresholds = refl; events = refl };
       }
 
   loops-keeps : (n : ℤ) → Keeps t (loops_set t n).track
   unfolding loops_set
-  loops-keeps n = on-natural (Keeps t) t n 1 loops_most _ 3 (same t v) (λ k low high. set_keeps k t.repeat t.direction (low, high) v.repeat v.direction)
+  loops-keeps n = on-natural (Keeps t) t n 1 loops_most _ 3 (same t v) (λ k low high. set_keeps (low, high) v.repeat v.direction v.cells v.rate)
 
   repeat-keeps : (f : ℤ) → Keeps t (repeat_set t f).track
   unfolding repeat_set
-  repeat-keeps f = on-natural (Keeps t) t f 0 1 _ 3 (same t v) (λ k low high. set_keeps t.loops k t.direction v.loops high v.direction)
+  repeat-keeps f = on-natural (Keeps t) t f 0 1 _ 3 (same t v) (λ k low high. set_keeps v.loops high v.direction v.cells v.rate)
 
   -- put on a place of its span and due, a track keeps what it kept
   due-keeps : (u : Track) → Keeps t u → (l : ℕ) → (u.start.0 ≤ l) × (l ≤ u.end.0) → Keeps t (moved u u.mode l u.passes.0 DUE)
@@ -196,10 +194,9 @@ module _ (t : Track) (v : Valid t) where
   unfolding direction_set turned_to
   direction-keeps d =
       on-natural (Keeps t) t d 0 1 _ 3 (same t v)
-      (λ k low high. let u = set_keeps t.loops t.repeat k v.loops v.repeat high in
+      (λ k low high. let u : Keeps t (turned t k) = set_keeps v.loops v.repeat high v.cells v.rate in
       cond_cases (Keeps t) (eqb t.mode STOPPED)
-      (λ _. spanned (turned t k) (rewound-valid t.start t.end k high (omega arith) (omega arith) (omega arith)) refl refl refl
-      (rewound-follower t.start t.end t.loops t.repeat k))
+      (λ _. rewound-keeps t.start t.end k high (omega arith) (omega arith) (omega arith))
       (λ _. cond_cases (Keeps t) (closes t k) (λ _. due-keeps (turned t k) u t.position.0 (omega arith)) (λ _. u)))
 
   action-keeps : (from to event : ℤ) → Keeps t (action_set t from to event).track
@@ -209,24 +206,7 @@ module _ (t : Track) (v : Valid t) where
       (λ a la ha. on-natural (Keeps t) t to 0 3 _ 3 (same t v)
       (λ b lb hb. on-natural (Keeps t) t event 0 cell_most _ 3 (same t v)
       (λ e le he. cond_cases (λ (r : Changed). Keeps t r.track) (eqb a b) (λ _. same t v)
-      (λ n. record {
-        valid =
-            record {
-              ordered = v.ordered;
-              loops = v.loops;
-              mode = v.mode;
-              direction = v.direction;
-              repeat = v.repeat;
-              due = v.due;
-              cells = set-cells t.actions a b e ha hb he (eqb-false a b n) v.cells;
-              rate = v.rate;
-            };
-        min = refl;
-        max = refl;
-        mode = refl;
-        passes = omega arith;
-        follower = record { master = refl; band = refl; thresholds = refl; events = refl };
-      }))))
+      (λ n. set_keeps v.loops v.repeat v.direction (set-cells t.actions a b e ha hb he (eqb-false a b n) v.cells) v.rate))))
 
   jump-keeps : (p : ℤ) → Keeps t (jump_to t p).track
   unfolding jump_to
@@ -241,31 +221,14 @@ module _ (t : Track) (v : Valid t) where
       on-natural (Keeps t) t p 1 rate_most _ 11 (same t v)
       (λ a la ha. on-natural (Keeps t) t q 1 rate_most _ 11 (same t v)
       (λ b lb hb. cond_cases (λ (r : Changed). Keeps t r.track) (ltb b a) (λ _. same t v)
-      (λ e. record {
-        valid =
-            record {
-              ordered = v.ordered;
-              loops = v.loops;
-              mode = v.mode;
-              direction = v.direction;
-              repeat = v.repeat;
-              due = v.due;
-              cells = v.cells;
-              rate =
-                  record {
-                    some = la;
-                    most = ltb-false b a e;
-                    last = hb;
-                    below = omega (arith, v.rate.stands stopped);
-                    stands = v.rate.stands;
-                  };
-            };
-        min = refl;
-        max = refl;
-        mode = refl;
-        passes = omega arith;
-        follower = record { master = refl; band = refl; thresholds = refl; events = refl };
-      })))
+      (λ e. set_keeps v.loops v.repeat v.direction v.cells
+      (record {
+        some = la;
+        most = ltb-false b a e;
+        last = hb;
+        below = omega (arith, v.rate.stands stopped);
+        stands = v.rate.stands;
+      }))))
 
   -- no set-up change breaks a rule of a track, moves its bounds or its mode, or adds a pass
   pub changed-keeps : (c : Change) → Keeps t (changed_by t c).track

@@ -34,8 +34,8 @@ impl Track {
     {
         self.steps != 0
             && self.steps <= self.ticks
-            && self.ticks as u32 <= Track::RATE
-            && self.remainder < self.ticks as u32
+            && u32::from(self.ticks) <= Track::RATE
+            && self.remainder < u32::from(self.ticks)
             && (self.mode != Track::STOPPED || self.remainder == 0)
     }
 

@@ -1,9 +1,10 @@
 // A follower: how far it is from home, the band that its drift from the master lies in, and its rules.
 ghost use Rattle.std.specs.Prelude.{◌≡◌, ◌==◌, ◌&&◌, ◌≤◌, leb, ltb, drop, length};
 ghost use Rattle.std.specs.List.{list_all};
-ghost use Rattle.track.specs.Rule.{Valid, coordinate_last, threshold_count, threshold_most, event_most};
+ghost use Rattle.track.specs.Rule.{coordinate_last, threshold_most, event_most};
 ghost use Rattle.track.specs.Follow.{thresholds_of, distance, apart, band_of, judged, following, pairs_test, follower_test};
 
+use crate::valid::ValidTrack;
 use crate::{Ticks, Track};
 
 // The drift: the absolute difference between two distances.
@@ -17,7 +18,10 @@ pub fn apart(x: u32, y: u32) -> u32
 fn pair_kept(low: u32, threshold: u32, event: u16) -> bool
     ensures { result ≡ (ltb low threshold && (leb threshold threshold_most && (leb 1 event && leb event event_most))) }
 {
-    low < threshold && threshold <= Track::THRESHOLD && 1 <= event && event as u32 <= Track::EVENT
+    low < threshold
+        && threshold <= Track::THRESHOLD
+        && 1 <= event
+        && u32::from(event) <= Track::EVENT
 }
 
 // Whether thresholds and events have only 0 from a place on.
@@ -36,6 +40,7 @@ fn zeros_from(
 pub fn pairs_kept(thresholds: [u32; Track::THRESHOLDS], events: [u16; Track::THRESHOLDS]) -> bool
     ensures { result ≡ pairs_test 0 thresholds events }
 {
+    // By index: the two rows are C's, and each threshold is compared with the one before it.
     let mut low = 0;
     for k in 0..Track::THRESHOLDS {
         if thresholds[k] == 0 {
@@ -63,7 +68,7 @@ impl Track {
         ensures { result ≡ follower_test self clock }
     {
         pairs_kept(self.thresholds, self.events)
-            && self.band as usize <= self.count()
+            && usize::from(self.band) <= self.count()
             && (clock.0 != 0 || self.band == 0)
     }
 
@@ -85,14 +90,6 @@ impl Track {
         }
     }
 
-    // How far it is from home.
-    pub fn distance(self) -> u32
-        requires { Valid self }
-        ensures { (result ≡ distance self) × (result ≤ coordinate_last) }
-    {
-        self.phase(self.position)
-    }
-
     // The band of a drift: the highest threshold that it exceeds.
     pub fn band_at(self, drift: u32) -> u8
         ensures { result ≡ band_of (thresholds_of self) drift }
@@ -102,17 +99,25 @@ impl Track {
             .take_while(|x| **x != 0 && **x < drift)
             .count() as u8
     }
+}
+
+impl ValidTrack {
+    // How far it is from home.
+    pub fn distance(self) -> u32
+        ensures { (result ≡ distance self.track) × (result ≤ coordinate_last) }
+    {
+        self.track.phase(self.track.position)
+    }
 
     // The band of a follower of this master: none if either is STOPPED.
     #[tactic(auto, unfolding(crate::specs::Follow::judged))]
-    pub fn judged(self, master: Track) -> u8
-        requires valid { Valid self }
-        requires valid_2 { Valid master }
-        ensures { result ≡ judged self master }
+    pub fn judged(self, master: ValidTrack) -> u8
+        ensures { result ≡ judged self.track master.track }
     {
-        if self.mode == Track::STOPPED || master.mode == Track::STOPPED {
+        if self.track.mode == Track::STOPPED || master.track.mode == Track::STOPPED {
             return 0;
         }
-        self.band_at(apart(self.distance(), master.distance()))
+        self.track
+            .band_at(apart(self.distance(), master.distance()))
     }
 }

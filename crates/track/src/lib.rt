@@ -13,6 +13,7 @@ mod rate;
 pub mod refusal;
 pub mod setup;
 mod stride;
+pub mod valid;
 mod walk;
 
 // A position of 01, PREMO's coordinate C, kept as position + 1,000,000 so that it has no sign inside.
@@ -30,7 +31,7 @@ pub struct Ticks(pub u32);
 #[derive(Clone, Copy, PartialEq, Eq, PartialOrd, Ord)]
 pub struct Passes(pub u32);
 
-// C lends it with any bytes and by this layout. So its rules stand in `Valid`, a clause of each method that needs them, and in no type;
+// C lends it with any bytes and by this layout. So its rules stand in `Valid` and in no invariant of it: a `ValidTrack` carries them;
 // a mode, a direction or a flag is a byte with names and no enum; and thresholds and events are two rows, not one of pairs.
 #[repr(C)]
 #[derive(Clone, Copy)]
@@ -204,6 +205,6 @@ impl Track {
         requires { (from ≤ 3) × (to ≤ 3) }
         ensures { result ≡ action_cell self from to }
     {
-        self.actions[(from * 4 + to) as usize]
+        self.actions[usize::from(from * 4 + to)]
     }
 }

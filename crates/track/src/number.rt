@@ -21,7 +21,7 @@ pub fn capped(n: i64, most: u32) -> Option<u32>
     ensures { result ≡ capped_of n most }
 {
     let k = u64::try_from(n).ok()?;
-    Some(k.min(most as u64) as u32)
+    Some(k.min(u64::from(most)) as u32)
 }
 
 // A bound of a range of positions, brought to just beside the least or the greatest position if it
@@ -54,7 +54,7 @@ impl From<Coordinate> for i64 {
 
     #[tactic(auto, unfolding(crate::specs::Number::value_of))]
     fn from(c: Coordinate) -> i64 {
-        c.0 as i64 - Coordinate::BIAS
+        i64::from(c.0) - Coordinate::BIAS
     }
 }
 

@@ -281,11 +281,6 @@ going-leap b count log₀ log ts clock held taken answer g word r k ew leapable 
 
 -- ---- the ways out of `proceed` and `advance`
 
--- by the count as it was given
-pub advance-told : (b : Board) (log : List ℕ) {told given : ℤ} → told ≡ given → {reply : Reply} {board : Board} {after : List ℕ} →
-    Gives (does (call.Advance told) (world b log)) reply board after → Gives (does (call.Advance given) (world b log)) reply board after
-advance-told b log e {reply} {board} {after} g = subst (λ (n : ℤ). Gives (does (call.Advance n) (world b log)) reply board after) e g
-
 module _ (b : Board) (log : List ℕ) (count : ℤ) where
   abbrev given : Did Reply (World Board)
   given = does (call.Advance count) (world b log)

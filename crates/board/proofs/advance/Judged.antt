@@ -31,7 +31,7 @@ pub record Ticked (b : Board) (ts : List Track) (clock : ℕ) (after : List Trac
   pub bytes : stage ≡ log_bytes (tick_from (keys_of b.points) (infos_of b.points) (clock + 1) b.present ts).records
   pub word_is : word ≡ playing_word b.present after
 
-module _ (b : Board) (ts : List Track) (clock : ℕ) (tracks : List Track) (stage : List ℕ) (word : ℕ) (p : Played b ts clock tracks stage word) where
+module _ {b : Board} {ts : List Track} {clock : ℕ} {tracks : List Track} {stage : List ℕ} {word : ℕ} (p : Played b ts clock tracks stage word) where
   abbrev played : Stage
   played = play_from (keys_of b.points) (infos_of b.points) (clock + 1) b.present ts
 
@@ -40,7 +40,7 @@ module _ (b : Board) (ts : List Track) (clock : ℕ) (tracks : List Track) (stag
   played-room =
       omega (arith, ap length p.bytes, length-log played.records, play-few (keys_of b.points) (infos_of b.points) (clock + 1) b.present ts)
 
-  module _ (led : ℕ) (el : led ≡ follow_word b.present ts) where
+  module _ {led : ℕ} (el : led ≡ follow_word b.present ts) where
     abbrev bands : Stage
     bands = followed_from (clock + 1) (members led) tracks
 

@@ -2,9 +2,8 @@
 use Prim.Native.Nat.{ℕ, ◌+◌, ◌-◌, ◌*◌, ◌≤◌, ◌<◌, min}
 use mathlib.Core.Path.{◌≡◌, refl, sym, ◌∙◌, ap, subst}
 use mathlib.Core.Bool.{Bool, true, false, cond, true≢false}
-use mathlib.Core.List.{List, []}
+use mathlib.Core.List.{List, [], ◌∷◌}
 use native.Mathlib.Omega.{arith}
-use lib.Count.{ones, count_trailing_zeros}
 use lib.Dec.{eqb}
 use lib.ListN.{length}
 use Rattle.track.specs.declared.Track.{Track}
@@ -203,17 +202,18 @@ module _ {b : Board} {count : ℕ} {log₀ log : List ℕ} {ts : List Track} {cl
             back_is = λ h. begun.1 h ∙ sym l;
           }
 
-      pub turning-begun : {stage reached : List ℕ} → stage ≡ [] → reached ≡ [] →
-          Turning b us (clock + skipped) word unleapt stage reached us word (ones word) false
-      turning-begun {stage} {reached} es er =
+      pub turning-begun : {stage reached : List ℕ} {rest : ℕ} → stage ≡ [] → reached ≡ [] → word ≡ rest →
+          Turning b us (clock + skipped) word unleapt stage reached us rest false
+      turning-begun {stage} {reached} es er ew =
           let l = begun.0.leaps in
           let w = s.word_is ∙ sym begun.0.word in
-          subst (λ (xs : List ℕ). Turning b us (clock + skipped) word unleapt xs reached us word (ones word) false) (sym es)
-          (subst (λ (ds : List ℕ). Turning b us (clock + skipped) word unleapt [] ds us word (ones word) false) (sym er)
+          subst (λ (v : ℕ). Turning b us (clock + skipped) word unleapt stage reached us v false) ew
+          (subst (λ (xs : List ℕ). Turning b us (clock + skipped) word unleapt xs reached us word false) (sym es)
+          (subst (λ (ds : List ℕ). Turning b us (clock + skipped) word unleapt [] ds us word false) (sym er)
           (turning-start b us (clock + skipped) word unleapt w begun.0.long
           (subst (λ (v : ℕ). Leapable us (members v)) (sym w) begun.0.leapable)
           (subst (λ (vs : List Track). Leapable vs (members (playing_word b.present vs))) (sym l) (unbroken-leapable _ whole-on))
-          (subst (λ (vs : List Track). (i : ℕ) → is_present b.present i ≡ true → Valid (track_at vs i)) (sym l) (λ i h. (whole-on.tracks i h).valid))))
+          (subst (λ (vs : List Track). (i : ℕ) → is_present b.present i ≡ true → Valid (track_at vs i)) (sym l) (λ i h. (whole-on.tracks i h).valid)))))
 
       -- the tick is walked and taken: fewer turns are left
       pub walked-less : (total : ℕ) {after : List Track} {stage' log' : List ℕ} {word' : ℕ} {answer' : Advanced} →
@@ -231,9 +231,9 @@ module _ {b : Board} {count : ℕ} {log₀ log : List ℕ} {ts : List Track} {cl
 -- ---- a member of the pass
 
 -- the track leapt can step
-pub stepping : {b : Board} {ts next : List Track} {stage reached : List ℕ} {clock word skipped rest left : ℕ} {more : Bool} {x : Track} →
-    Turning b ts clock word skipped stage reached next rest left more → 0 < left → x ≡ leap (track_at next (count_trailing_zeros 16 rest)) skipped → CanLeap x
-stepping t h e = subst CanLeap (sym e) (turning-leapt _ _ _ _ _ _ _ _ _ _ _ t h)
+pub stepping : {b : Board} {ts next : List Track} {stage reached : List ℕ} {clock word skipped rest : ℕ} {more : Bool} {x : Track} →
+    Turning b ts clock word skipped stage reached next rest more → (i rest' : ℕ) → members rest ≡ i ∷ members rest' → x ≡ leap (track_at next i) skipped → CanLeap x
+stepping t i rest' h e = subst CanLeap (sym e) (turning-leapt t i rest' h)
 
 -- what is met where the track arrives is what the tick finds there
 pub met-found : (ks is : List ℕ) (i : ℕ) (x : Track) {made : Bool} {l d : ℕ} → d ≡ cond made (info_at (key i l) ks is) 0 → made ≡ moves x → l ≡ arrival x
@@ -270,11 +270,11 @@ module _ {b : Board} {count : ℕ} {log₀ log : List ℕ} {ts back : List Track
       (going-full b count log₀ log leapt clock held taken _ p.going p.behind p.early (omega (arith, p.room_is)))
 
   -- within the pass
-  pub full-early : {stage reached : List ℕ} {next : List Track} {rest left n : ℕ} {more : Bool} →
-      Turning b ts clock word unleapt stage reached next rest left more → length stage ≡ n * record_width → room < n →
+  pub full-early : {stage reached : List ℕ} {next : List Track} {rest n : ℕ} {more : Bool} →
+      Turning b ts clock word unleapt stage reached next rest more → length stage ≡ n * record_width → room < n →
       Ended b (go count (world b log₀)) (record { answer = LogFull (record { 0 = taken }); tracks = back; clock = record { 0 = clock }; held = held }) log
-  full-early {stage} {reached} {next} {rest} {left} {n} {more} t el r =
-      let o = turning-over b ts clock word unleapt p.word_is stage reached next rest left more t el in
+  full-early {stage} {n = n} t el r =
+      let o = turning-over p.word_is t el in
       full (omega (arith, t.steps.few_records, length-log t.steps.records, ap length t.steps.bytes_are)) (omega arith)
 
   -- the steps and the commands of the tick are worked out, and the whole tick
@@ -286,7 +286,7 @@ module _ {b : Board} {count : ℕ} {log₀ log : List ℕ} {ts back : List Track
 
   -- behind the steps and the commands the followers can be judged
   pub pass-rules : {after : List Track} {stage : List ℕ} {word' : ℕ} → PlayedHere after stage word' → FollowRules after (members led)
-  pass-rules {after} {stage} {word'} t = played-rules b leapt clock after stage word' t led p.led_is (unbroken-rules _ _ pass-whole)
+  pass-rules {after} {stage} {word'} t = played-rules t p.led_is (unbroken-rules _ _ pass-whole)
 
   -- the whole tick is worked out
   module _ {after : List Track} {total : ℕ} {stage : List ℕ} {word' : ℕ} (t : TickedHere after stage word') (el : length stage ≡ total * record_width) where

@@ -1,10 +1,9 @@
 -- The laws of a turn of the tick loop: quiet ticks leapt and one tick walked, in one pass over the members of the playing word.
-use Prim.Native.Nat.{ℕ, zero, suc, ◌+◌, ◌-◌, ◌*◌, ◌/◌, ◌%◌, ◌≤◌, ◌<◌}
+use Prim.Native.Nat.{ℕ, zero, suc, ◌+◌, ◌*◌, ◌/◌, ◌%◌, ◌≤◌, ◌<◌}
 use mathlib.Core.Path.{◌≡◌, refl, sym, ◌∙◌, ap, ap₂, subst}
 use mathlib.Core.Bool.{Bool, true, false, cond, not, ◌||◌, true≢false}
 use mathlib.Core.List.{List, [], ◌∷◌, ◌++◌}
 use native.Mathlib.Omega.{arith}
-use lib.Count.{count_trailing_zeros, ones}
 use lib.Dec.{eqb}
 use lib.ListN.{length, set, length-set}
 use lib.Seq.{get_or-set_same, get_or-set_other, set-set, set_comm}
@@ -26,11 +25,10 @@ use Rattle.board.specs.Replay.{Each}
 use Rattle.board.specs.Quiet.{CanLeap, Leapable, leap_into, leap_tracks}
 use Rattle.board.proofs.points.Keys.{ascending-head, ascending-rest}
 use Rattle.board.proofs.points.Rows.{ascending-weaken}
-use Rattle.board.proofs.tick.Bits.{Lowest, cleared}
+use Rattle.board.proofs.tick.Bits.{first_inside}
 use Rattle.board.proofs.tick.Commands.{each_set, tracks_run, records_run}
 use Rattle.board.proofs.quiet.Leaps.{leap-into, leap-tracks-long, leap-tracks-word, leap-tracks-zero}
-use Rattle.board.proofs.advance.Members.{Stepping, stepping-start, stepping-step, stepping-room, stepping-over, stepping-done, member-left, none_left}
-use Rattle.board.proofs.quiet.Players.{word_small}
+use Rattle.board.proofs.advance.Members.{Stepping, stepping-start, stepping-step, stepping-room, stepping-over, stepping-done}
 use Rattle.board.proofs.tick.Staging.{length-log, staged-none}
 use Rattle.board.proofs.tick.Steps.{members-ascend}
 use Rattle.board.proofs.follow.Following.{follow-adds}
@@ -196,8 +194,8 @@ module _ (present skipped : ℕ) (before : List Track) (l : length before ≡ tr
 -- ---- a turn, as far as it has gone
 
 -- `skipped` ticks leapt and one walked, of the members of `word` but for those of `rest`; so far `more` says whether a step needs more
-pub record Turning (b : Board) (ts : List Track) (clock word skipped : ℕ) (stage reached : List ℕ) (next : List Track) (rest left : ℕ) (more : Bool) : Type 0 where
-  pub steps : Stepping b (leap_tracks skipped b.present ts) clock word stage reached (leap_into skipped next (members rest) next) rest left
+pub record Turning (b : Board) (ts : List Track) (clock word skipped : ℕ) (stage reached : List ℕ) (next : List Track) (rest : ℕ) (more : Bool) : Type 0 where
+  pub steps : Stepping b (leap_tracks skipped b.present ts) clock word stage reached (leap_into skipped next (members rest) next) rest
   pub ready : Leapable next (members rest)
   pub long : length next ≡ track_count
   pub same_word : more ≡ false → word ≡ playing_word b.present next
@@ -206,15 +204,15 @@ pub record Turning (b : Board) (ts : List Track) (clock word skipped : ℕ) (sta
 pub turning-start : (b : Board) (ts : List Track) (clock word skipped : ℕ) → word ≡ playing_word b.present ts → length ts ≡ track_count →
     Leapable ts (members word) → Leapable (leap_tracks skipped b.present ts) (members (playing_word b.present (leap_tracks skipped b.present ts))) →
     ((i : ℕ) → is_present b.present i ≡ true → Valid (track_at (leap_tracks skipped b.present ts) i)) →
-    Turning b ts clock word skipped [] [] ts word (ones word) false
+    Turning b ts clock word skipped [] [] ts word false
 unfolding Each
 turning-start b ts clock word skipped ew l leapable leapable' valid =
     let after = leap_tracks skipped b.present ts in
     let w = leap-tracks-word skipped b.present ts ∙ sym ew in
     record {
-      steps = subst (λ (us : List Track). Stepping b after clock word [] [] us word (ones word))
+      steps = subst (λ (us : List Track). Stepping b after clock word [] [] us word)
           (sym (leap-into skipped b.present ts l) ∙ ap (λ (v : ℕ). leap_into skipped ts (members v) ts) (sym ew))
-          (stepping-start b after clock word (subst (λ (v : ℕ). v < 65536) (sym ew) (word_small b.present ts l))
+          (stepping-start b after clock word
           (subst (λ (v : ℕ). Leapable after (members v)) w leapable') valid (leap-tracks-long skipped b.present ts ∙ l));
       ready = leapable;
       long = l;
@@ -222,23 +220,17 @@ turning-start b ts clock word skipped ew l leapable leapable' valid =
       no_command = λ e. tt;
     }
 
-module _ (b : Board) (ts : List Track) (clock word skipped : ℕ) (stage reached : List ℕ) (next : List Track) (rest left : ℕ) (more : Bool)
-    (s : Turning b ts clock word skipped stage reached next rest left more) where
-  abbrev i : ℕ
-  i = count_trailing_zeros 16 rest
-
+module _ {b : Board} {ts : List Track} {clock word skipped : ℕ} {stage reached : List ℕ} {next : List Track} {rest : ℕ} {more : Bool}
+    (s : Turning b ts clock word skipped stage reached next rest more) where
   -- where there is a member left
-  module _ (h : 0 < left) where
-    pub turning-member : Lowest rest
-    turning-member = member-left _ _ _ _ _ _ _ _ _ s.steps h
-
-    above : ascending_from (suc i) (members (cleared rest)) ≡ true
+  module _ (i rest' : ℕ) (h : members rest ≡ i ∷ members rest') where
+    above : ascending_from (suc i) (members rest') ≡ true
     above =
-        ascending-rest 0 i (members (cleared rest))
-        (subst (λ (is : List ℕ). ascending_from 0 is ≡ true) turning-member.rest (members-ascend track_count 0 rest))
+        ascending-rest 0 i (members rest')
+        (subst (λ (is : List ℕ). ascending_from 0 is ≡ true) h (members-ascend track_count 0 rest))
 
-    readies : Leapable next (i ∷ members (cleared rest))
-    readies = subst (Leapable next) turning-member.rest s.ready
+    readies : Leapable next (i ∷ members rest')
+    readies = subst (Leapable next) h s.ready
 
     -- it can be leapt
     pub turning-leapable : CanLeap (track_at next i)
@@ -246,47 +238,47 @@ module _ (b : Board) (ts : List Track) (clock word skipped : ℕ) (stage reached
     turning-leapable = readies.0
 
     -- its leap is the one that stands in its place
-    ahead : leap_into skipped next (members rest) next ≡ leap_into skipped next (members (cleared rest)) (set next i (leap (track_at next i) skipped))
+    ahead : leap_into skipped next (members rest) next ≡ leap_into skipped next (members rest') (set next i (leap (track_at next i) skipped))
     unfolding leap_into
-    ahead = ap (λ (is : List ℕ). leap_into skipped next is next) turning-member.rest
+    ahead = ap (λ (is : List ℕ). leap_into skipped next is next) h
 
     its-leap : track_at (leap_into skipped next (members rest) next) i ≡ leap (track_at next i) skipped
     its-leap =
         ap (λ (us : List Track). track_at us i) ahead
-        ∙ into-at skipped i next (members (cleared rest)) (set next i (leap (track_at next i) skipped)) above
-        ∙ get_or-set_same next i (leap (track_at next i) skipped) no_track (omega (arith, s.long, turning-member.inside))
+        ∙ into-at skipped i next (members rest') (set next i (leap (track_at next i) skipped)) above
+        ∙ get_or-set_same next i (leap (track_at next i) skipped) no_track (omega (arith, s.long, first_inside rest i (members rest') h))
 
     -- the leapt track can step
     pub turning-leapt : CanLeap (leap (track_at next i) skipped)
     unfolding Each
     turning-leapt =
-        subst CanLeap its-leap (subst (λ (is : List ℕ). Leapable (leap_into skipped next (members rest) next) is) turning-member.rest s.steps.leapable).0
+        subst CanLeap its-leap (subst (λ (is : List ℕ). Leapable (leap_into skipped next (members rest) next) is) h s.steps.leapable).0
 
-    put : (u : Track) → set (leap_into skipped next (members rest) next) i u ≡ leap_into skipped (set next i u) (members (cleared rest)) (set next i u)
+    put : (u : Track) → set (leap_into skipped next (members rest) next) i u ≡ leap_into skipped (set next i u) (members rest') (set next i u)
     put u =
         ap (λ (us : List Track). set us i u) ahead
-        ∙ into-set skipped i next (members (cleared rest)) (set next i (leap (track_at next i) skipped)) u above
-        ∙ ap (leap_into skipped next (members (cleared rest))) (set-set next i (leap (track_at next i) skipped) u)
-        ∙ sym (into-from skipped i next (members (cleared rest)) (set next i u) u above)
+        ∙ into-set skipped i next (members rest') (set next i (leap (track_at next i) skipped)) u above
+        ∙ ap (leap_into skipped next (members rest')) (set-set next i (leap (track_at next i) skipped) u)
+        ∙ sym (into-from skipped i next (members rest') (set next i u) u above)
 
     -- there is room for its records
     pub turning-room : Room 2 stage
-    turning-room = stepping-room _ _ _ _ _ _ _ _ _ s.steps h
+    turning-room = stepping-room _ _ _ _ _ _ _ _ s.steps i rest' h
 
     -- one member leapt and stepped: its records staged, its point noted
     turning-step : (us : List Track) → points_test b.present us 0 (keys_of b.points) (infos_of b.points) ≡ true →
         {x u : Track} {d : ℕ} {stage' reached' : List ℕ} {more' : Bool} → x ≡ leap (track_at next i) skipped →
         d ≡ found_by (keys_of b.points) (infos_of b.points) i x → u ≡ played x (waits d) →
         stage' ≡ stage ++ log_bytes (step_records (clock + 1) i x d) → reached' ≡ reached ++ reached_by d → more' ≡ (more || needs_more d u.mode) →
-        Turning b ts clock word skipped stage' reached' (set next i u) (cleared rest) (left - 1) more'
+        Turning b ts clock word skipped stage' reached' (set next i u) rest' more'
     unfolding Each
     turning-step us p {x} {u} {d} {stage'} {reached'} {more'} ex ed eu es er et =
         record {
-          steps = subst (λ (ns : List Track). Stepping b (leap_tracks skipped b.present ts) clock word stage' reached' ns (cleared rest) (left - 1)) (put u)
-              (subst (λ (t : Track). d ≡ found_by (keys_of b.points) (infos_of b.points) i t → u ≡ played t (waits d) → stage' ≡ stage ++ log_bytes (step_records (clock + 1) i t d) → Stepping b (leap_tracks skipped b.present ts) clock word stage' reached' (set (leap_into skipped next (members rest) next) i u) (cleared rest) (left - 1))
+          steps = subst (λ (ns : List Track). Stepping b (leap_tracks skipped b.present ts) clock word stage' reached' ns rest') (put u)
+              (subst (λ (t : Track). d ≡ found_by (keys_of b.points) (infos_of b.points) i t → u ≡ played t (waits d) → stage' ≡ stage ++ log_bytes (step_records (clock + 1) i t d) → Stepping b (leap_tracks skipped b.present ts) clock word stage' reached' (set (leap_into skipped next (members rest) next) i u) rest')
               (its-leap ∙ sym ex)
-              (λ ed eu es. stepping-step _ _ _ _ _ _ _ _ _ s.steps h us p ed eu es er) ed eu es);
-          ready = each_set CanLeap next i u (members (cleared rest)) above readies.1;
+              (λ ed eu es. stepping-step _ _ _ _ _ _ _ _ s.steps i rest' h us p ed eu es er) ed eu es);
+          ready = each_set CanLeap next i u (members rest') above readies.1;
           long = length-set next i u ∙ s.long;
           same_word = λ e.
               let n = needs-more-not more d u.mode (sym et ∙ e) in
@@ -301,10 +293,10 @@ module _ (b : Board) (ts : List Track) (clock word skipped : ℕ) (stage reached
         {x : Track} {r : Stepped} {d : ℕ} {stage' reached' : List ℕ} {more' : Bool} → x ≡ leap (track_at next i) skipped →
         d ≡ found_by (keys_of b.points) (infos_of b.points) i x → r ≡ stepped (played x (waits d)) →
         stage' ≡ stage ++ log_bytes (step_records (clock + 1) i x d) → reached' ≡ reached ++ reached_by d → more' ≡ (more || needs_more d r.mode) →
-        Turning b ts clock word skipped stage' reached' (stored next i r) (cleared rest) (left - 1) more'
+        Turning b ts clock word skipped stage' reached' (stored next i r) rest' more'
     turning-store us p {x} {r} {d} {stage'} {reached'} {more'} ex ed e es er et =
-        subst (λ (ns : List Track). Turning b ts clock word skipped stage' reached' ns (cleared rest) (left - 1) more')
-        (sym (stored_is next i r (omega (arith, s.long, turning-member.inside))))
+        subst (λ (ns : List Track). Turning b ts clock word skipped stage' reached' ns rest' more')
+        (sym (stored_is next i r (omega (arith, s.long, first_inside rest i (members rest') h))))
         (turning-step us p ex ed (ap (stored_track (track_at next i)) e ∙ step-moves (track_at next i) x skipped (waits d) ex) es er et)
 
 -- ---- the ways out
@@ -315,8 +307,8 @@ pub record Played (b : Board) (ts : List Track) (clock : ℕ) (after : List Trac
   pub bytes : stage ≡ log_bytes (play_from (keys_of b.points) (infos_of b.points) (clock + 1) b.present ts).records
   pub word_is : word ≡ playing_word b.present after
 
-module _ (b : Board) (ts : List Track) (clock word skipped : ℕ) (ew : word ≡ playing_word b.present ts) (stage reached : List ℕ) (next : List Track)
-    (rest left : ℕ) (more : Bool) (s : Turning b ts clock word skipped stage reached next rest left more) where
+module _ {b : Board} {ts : List Track} {clock word skipped : ℕ} (ew : word ≡ playing_word b.present ts) {stage reached : List ℕ} {next : List Track}
+    {rest : ℕ} {more : Bool} (s : Turning b ts clock word skipped stage reached next rest more) where
   abbrev leapt : List Track
   leapt = leap_tracks skipped b.present ts
 
@@ -330,17 +322,17 @@ module _ (b : Board) (ts : List Track) (clock word skipped : ℕ) (ew : word ≡
       let all = play_from (keys_of b.points) (infos_of b.points) (clock + 1) b.present leapt in
       omega (
         arith,
-        stepping-over b leapt clock word same stage reached _ rest left s.steps el,
+        stepping-over b leapt clock word same stage reached _ rest s.steps el,
         follow-adds (clock + 1) (members (follow_word b.present leapt)) all,
       )
 
-  module _ (h : left ≤ 0) where
+  module _ (h : members rest ≡ []) where
     over : leap_into skipped next (members rest) next ≡ next
     unfolding leap_into
-    over = ap (λ (is : List ℕ). leap_into skipped next is next) (none_left rest s.steps.small (omega (arith, s.steps.left_is)))
+    over = ap (λ (is : List ℕ). leap_into skipped next is next) h
 
-    all-stepped : Stepping b leapt clock word stage reached next rest left
-    all-stepped = subst (λ (us : List Track). Stepping b leapt clock word stage reached us rest left) over s.steps
+    all-stepped : Stepping b leapt clock word stage reached next rest
+    all-stepped = subst (λ (us : List Track). Stepping b leapt clock word stage reached us rest) over s.steps
 
     -- what the commands may rely on
     pub turning-rule : TracksRule b.present next reached
@@ -354,7 +346,7 @@ module _ (b : Board) (ts : List Track) (clock word skipped : ℕ) (ew : word ≡
     pub turning-more : {after : List Track} {stage' : List ℕ} {word' : ℕ} → after ≡ tracks_run (clock + 1) reached next →
         stage' ≡ stage ++ log_bytes (records_run (clock + 1) reached next) → word' ≡ playing_word b.present after → Played b leapt clock after stage' word'
     turning-more ea es eq =
-        let d = stepping-done b leapt clock word same stage reached next rest left all-stepped h ea es in
+        let d = stepping-done b leapt clock word same stage reached next rest all-stepped h ea es in
         record { tracks = d.0; bytes = d.1; word_is = eq }
 
     -- neither

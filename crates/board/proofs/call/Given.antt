@@ -13,6 +13,7 @@ use Rattle.track.specs.Number.{natural_of, coordinate_of, within}
 use Rattle.track.specs.Setup.{Changed, after, permits, start_set, end_set, loops_set, repeat_set, direction_set, action_set, jump_to, rate_set, set_by, changed_by}
 use Rattle.track.proofs.Tests.{cond_cases}
 use Rattle.board.specs.declared.Board.{Board}
+use Rattle.board.specs.declared.call.PointNumbers.{PointNumbers}
 use Rattle.board.specs.Board.{track_at, no_track, unbroken_test}
 use Rattle.board.specs.Setup.{Outcome, outcome, refused, board_with, put_track, set_up, add_track, set_point, drop_point, set_master, clear_board}
 use Rattle.board.specs.Mode.{ModeResult, mode_result}
@@ -91,9 +92,9 @@ module _ (b : Board) where
   pub add-track-given : (number min max : ℤ) → Given b (add_track b number min max)
   add-track-given number min max = add-track-ways b (Given b) no number min max (λ i low high _ _ _ _. record { result = Ok _; is = refl })
 
-  pub set-point-given : (track position event wait command target : ℤ) → Given b (set_point b track position event wait command target)
-  set-point-given track position event wait command target =
-      set-point-ways b (Given b) no track position event wait command target (λ p _ _. record { result = Ok _; is = refl })
+  pub set-point-given : (track : ℤ) (given : PointNumbers) → Given b (set_point b track given)
+  set-point-given track given =
+      set-point-ways b (Given b) no track given (λ p _ _. record { result = Ok _; is = refl })
 
   pub drop-point-given : (track position : ℤ) → Given b (drop_point b track position)
   drop-point-given track position = drop-point-ways b (Given b) no track position (λ k _. record { result = Ok _; is = refl })
@@ -118,6 +119,7 @@ mode-given w =
 
 -- ---- what bars an advance
 
+-- a number of one of the eleven refusals
 pub record Bars (k : ℕ) : Type 0 where
   pub refusal : Refusal
   pub is : number_of refusal ≡ k

@@ -9,6 +9,7 @@ use Rattle.track.specs.declared.setup.Change.{Change}
 use Rattle.track.specs.declared.Track.{Track}
 use Rattle.track.specs.declared.Ticks.{Ticks}
 use Rattle.board.specs.declared.Board.{Board}
+use Rattle.board.specs.declared.call.PointNumbers.{PointNumbers}
 use Rattle.board.specs.declared.points.Point.{Point}
 use Rattle.board.specs.Setup.{Outcome}
 use Rattle.board.specs.declared.call.Call.TheVariants as call
@@ -43,9 +44,9 @@ module _ (b : Board) where
   unfolding run_count says_of makes_of
   set-up-leaves i c h = outcome-gives (set_up b i c) h
 
-  pub set-point-leaves : (i p e w c g : ℤ) {r : Outcome} → r ≡ set_point b i p e w c g → Leaves (call.SetPoint i p e w c g) b (answered r.answer) r.board
+  pub set-point-leaves : (i : ℤ) (p : PointNumbers) {r : Outcome} → r ≡ set_point b i p → Leaves (call.SetPoint i p) b (answered r.answer) r.board
   unfolding run_count says_of makes_of
-  set-point-leaves i p e w c g q = outcome-gives (set_point b i p e w c g) q
+  set-point-leaves i p q = outcome-gives (set_point b i p) q
 
   pub drop-point-leaves : (i p : ℤ) {r : Outcome} → r ≡ drop_point b i p → Leaves (call.DropPoint i p) b (answered r.answer) r.board
   unfolding run_count says_of makes_of

@@ -19,6 +19,7 @@ use Rattle.track.specs.Grid.{PLAY, PAUSE, RESUME, STOP, grid_of}
 use Rattle.track.proofs.Tests.{cond_cases}
 use Rattle.board.specs.Log.{record_width, record_bytes, log_bytes, capacity}
 use Rattle.board.specs.declared.Board.{Board}
+use Rattle.board.specs.declared.call.PointNumbers.{PointNumbers}
 use Rattle.board.specs.declared.log.Record.{Record}
 use Rattle.board.specs.Setup.{Outcome}
 use Rattle.board.specs.declared.call.Call.{Call}
@@ -30,7 +31,7 @@ use Rattle.board.specs.Mode.{ModeResult, declined, call_records, changing, chang
 use Rattle.board.specs.Cut.{ticks, Part, run, one}
 use Rattle.board.specs.Replay.{Made, World, flat, w-halt, w-bar, w-step, perform}
 use Rattle.board.specs.Call.{refused, Stop, ends, fills, stopped_by, Reason, stopped, refused_with, taken_in, why_not, ticked, grown_by, halt_of, bar_of, made_of, pair_numbers, makes_of, is_accepted, clears_of, gridstep, does}
-use Rattle.board.proofs.log.Records.{length-record}
+use Rattle.board.proofs.log.Records.{length_record}
 use Rattle.board.proofs.rules.Broken.{unbroken-of, unbroken-is}
 use Rattle.board.proofs.setup.Ways.{by-natural, set-up-ways, add-track-ways, set-point-ways, drop-point-ways, set-master-ways, clear-ways}
 use Rattle.board.proofs.rules.Present.{found_in_lem}
@@ -72,7 +73,7 @@ module _ (b : Board) (n : ℕ) (P : ModeResult → Type 0) (declines : (e : Refu
 -- records have one length, and growing adds up
 pub counts : Counts gridstep
 counts = record {
-  bytes_length = length-record;
+  bytes_length = length_record;
   held_grown = λ b n. refl;
   grown_zero = λ b. ap (λ (k : ℕ). board_with b b.tracks b.present b.points k) (add-zero b.held);
   grown_grown = λ b m n. ap (λ (k : ℕ). board_with b b.tracks b.present b.points k) (add_assoc b.held m n);
@@ -120,9 +121,9 @@ module _ (b : Board) where
   add-track-held : (number min max : ℤ) → Same (add_track b number min max)
   add-track-held number min max = add-track-ways b Same (λ k. refl) number min max (λ i low high _ _ _ _. refl)
 
-  set-point-held : (track position event wait command target : ℤ) → Same (set_point b track position event wait command target)
-  set-point-held track position event wait command target =
-      set-point-ways b Same (λ k. refl) track position event wait command target (λ p _ _. refl)
+  set-point-held : (track : ℤ) (given : PointNumbers) → Same (set_point b track given)
+  set-point-held track given =
+      set-point-ways b Same (λ k. refl) track given (λ p _ _. refl)
 
   drop-point-held : (track position : ℤ) → Same (drop_point b track position)
   drop-point-held track position = drop-point-ways b Same (λ k. refl) track position (λ k _. refl)
@@ -148,7 +149,7 @@ call_held : (c : Call) (n : ℕ) (b : Board) → Leaves gridstep (clears_of c b)
 unfolding makes_of clears_of
 call_held (call.AddTrack i lo hi) n b = add-track-held b i lo hi
 call_held (call.SetUp i c) n b = set-up-held b i c
-call_held (call.SetPoint i p e w c g) n b = set-point-held b i p e w c g
+call_held (call.SetPoint i p) n b = set-point-held b i p
 call_held (call.DropPoint i p) n b = drop-point-held b i p
 call_held (call.Play i) n b = mode-held b n i PLAY
 call_held (call.Pause i) n b = mode-held b n i PAUSE
@@ -172,7 +173,7 @@ call_fits : (c : Call) (n : ℕ) (b : Board) → record_width * b.held ≤ n →
 unfolding makes_of
 call_fits (call.AddTrack i lo hi) n b h = same-fits b n (add_track b i lo hi) (add-track-held b i lo hi) h
 call_fits (call.SetUp i c) n b h = same-fits b n (set_up b i c) (set-up-held b i c) h
-call_fits (call.SetPoint i p e w c g) n b h = same-fits b n (set_point b i p e w c g) (set-point-held b i p e w c g) h
+call_fits (call.SetPoint i p) n b h = same-fits b n (set_point b i p) (set-point-held b i p) h
 call_fits (call.DropPoint i p) n b h = same-fits b n (drop_point b i p) (drop-point-held b i p) h
 call_fits (call.Play i) n b h = mode-fits b n h i PLAY
 call_fits (call.Pause i) n b h = mode-fits b n h i PAUSE
@@ -250,7 +251,7 @@ module _ (b : Board) (w : Unbroken b) (held : ℕ) where
   unfolding makes_of
   made-whole (call.AddTrack i lo hi) n = held_whole _ (add-track-whole b w i lo hi) held
   made-whole (call.SetUp i c) n = held_whole _ (set-up-whole b w i c) held
-  made-whole (call.SetPoint i p e f c g) n = held_whole _ (set-point-whole b w i p e f c g) held
+  made-whole (call.SetPoint i p) n = held_whole _ (set-point-whole b w i p) held
   made-whole (call.DropPoint i p) n = held_whole _ (drop-point-whole b w i p) held
   made-whole (call.Play i) n = mode-whole n i PLAY
   made-whole (call.Pause i) n = mode-whole n i PAUSE

@@ -61,7 +61,7 @@ module _ (w : World Board) (k : ℕ) where
       ∙ ap (λ (t : Track). world (board_with b (set b.tracks j t) b.present b.points b.held) w.log)
       (changed-refused (track_at b.tracks j) c (answered-refused _ e))
       ∙ rw (set-get_or b.tracks j))
-  call-equal (call.SetPoint i p e f c g) = set-point-ways b Equal (λ _ _. silent b w) i p e f c g (λ q _ _ h. cc)
+  call-equal (call.SetPoint i p) = set-point-ways b Equal (λ _ _. silent b w) i p (λ q _ _ h. cc)
   call-equal (call.DropPoint i p) = drop-point-ways b Equal (λ _ _. silent b w) i p (λ j _ e. cc)
   call-equal (call.Play i) = mode-equal i PLAY
   call-equal (call.Pause i) = mode-equal i PAUSE

@@ -98,10 +98,11 @@ pub record Judging (clock : ℕ) (is₀ : List ℕ) (ts₀ : List Track) (xs₀ 
   pub bytes : xs ++ log_bytes (followed_from clock is ts).records ≡ xs₀ ++ log_bytes (followed_from clock is₀ ts₀).records
 
 -- at first
-pub judging-start : (clock led : ℕ) (ts : List Track) (xs : List ℕ) → FollowRules ts (members led) → length ts ≡ track_count
-    → Room track_count xs → Judging clock (members led) ts xs ts xs (members led)
-judging-start clock led ts xs r l h =
-    let m = members-most track_count 0 led in record { rules = r; long = l; room = omega arith; tracks = refl; bytes = refl }
+pub judging-start : (clock led word : ℕ) (ts : List Track) (xs : List ℕ) → led ≡ word → FollowRules ts (members led) → length ts ≡ track_count
+    → Room track_count xs → Judging clock (members led) ts xs ts xs (members word)
+judging-start clock led word ts xs e r l h =
+    let m = members-most track_count 0 led in
+    subst (λ (w : ℕ). Judging clock (members led) ts xs ts xs (members w)) e (record { rules = r; long = l; room = omega arith; tracks = refl; bytes = refl })
 
 module _ (clock : ℕ) (is₀ : List ℕ) (ts₀ : List Track) (xs₀ : List ℕ) (ts : List Track) (xs : List ℕ) where
   -- at the end

@@ -62,7 +62,7 @@ told : (c : Call) (w : World Board) → Told (does c w).answer
 unfolding run_count says_of
 told (call.AddTrack i lo hi) w = said-told (add_track w.board i lo hi).answer
 told (call.SetUp i c) w = said-told (set_up w.board i c).answer
-told (call.SetPoint i p e f c g) w = said-told (set_point w.board i p e f c g).answer
+told (call.SetPoint i p) w = said-told (set_point w.board i p).answer
 told (call.DropPoint i p) w = said-told (drop_point w.board i p).answer
 told (call.Play i) w = said-told (mode_result w.board (length w.log) i PLAY).answer
 told (call.Pause i) w = said-told (mode_result w.board (length w.log) i PAUSE).answer

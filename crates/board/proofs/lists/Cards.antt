@@ -13,6 +13,7 @@ use Rattle.track.specs.Rule.{PLAYING, PAUSED, WAITING, VISITED}
 use Rattle.track.specs.Number.{value_of}
 use Rattle.track.specs.Setup.{settled}
 use Rattle.board.specs.declared.Board.{Board}
+use Rattle.board.specs.declared.call.PointNumbers.{PointNumbers}
 use Rattle.board.specs.declared.call.Call.{Call}
 use Rattle.board.specs.declared.call.Call.TheVariants as call
 use Rattle.board.specs.declared.points.Point.{Point}
@@ -20,7 +21,7 @@ use Rattle.board.specs.declared.log.Record.{Record}
 use Rattle.board.specs.Log.{log_bytes}
 use Rattle.board.specs.Points.{keys_of, key_of, info_of, has_key, stored_in}
 use Rattle.board.specs.Board.{track_at, fresh_board, found_in, Unbroken}
-use Rattle.board.specs.Setup.{described_by, set_point, put_points}
+use Rattle.board.specs.Setup.{given_point, described_by, set_point, put_points}
 use Rattle.board.specs.Setup as outcome
 use Rattle.board.specs.Tick.{record_of}
 use Rattle.board.specs.Cut.{All}
@@ -54,7 +55,7 @@ abbrev pub jump : ℕ → ℕ → Call
 jump i p = call.SetUp (pos i) (change.Jump (pos p))
 
 abbrev pub point : ℕ → ℕ → ℕ → ℕ → ℕ → ℕ → Call
-point i p event wait command target = call.SetPoint (pos i) (pos p) (pos event) (pos wait) (pos command) (pos target)
+point i p event wait command target = call.SetPoint (pos i) (given_point (pos p) (pos event) (pos wait) (pos command) (pos target))
 
 abbrev pub play : ℕ → Call
 play i = call.Play (pos i)
@@ -262,22 +263,22 @@ traps =
 
 -- ---- L for any board: a call whose numbers describe the point p
 
-module _ (b : Board) (w : Unbroken b) (track position event wait command target : ℤ) (i : ℕ) (p : Point)
+module _ (b : Board) (w : Unbroken b) (track : ℤ) (given : PointNumbers) (i : ℕ) (p : Point)
     (found : found_in b.present track ≡ Some i) (free : settled (track_at b.tracks i).mode ≡ true)
-    (good : described_by b.present i (track_at b.tracks i) position event wait command target ≡ Some p) where
-  stores : set_point b track position event wait command target ≡ put_points b 5 (stored_in b.points (key_of p) (info_of p))
+    (good : described_by b.present i (track_at b.tracks i) given ≡ Some p) where
+  stores : set_point b track given ≡ put_points b 5 (stored_in b.points (key_of p) (info_of p))
   unfolding set_point
   stores = simp (unbroken-is b w, found, free, good)
 
   -- where 256 points are held and none at its place, it is refused 5, the board equal
   pub full-refused : b.points.count ≡ 256 → has_key (key_of p) (keys_of b.points) ≡ false →
-      set_point b track position event wait command target ≡ outcome.refused 5 b
+      set_point b track given ≡ outcome.refused 5 b
   full-refused full h = stores ∙ simp (stored-full b.points (key_of p) (info_of p) h (omega arith))
 
   -- where a point is held at its place, it is accepted, and as many points are held as before
   pub there-replaced : has_key (key_of p) (keys_of b.points) ≡ true →
-      ((set_point b track position event wait command target).answer ≡ Accepted)
-      × ((set_point b track position event wait command target).board.points.count ≡ b.points.count)
+      ((set_point b track given).answer ≡ Accepted)
+      × ((set_point b track given).board.points.count ≡ b.points.count)
   there-replaced h =
       let r = stored-replaces b.points (key_of p) (info_of p) h in
       rw (stores, r.0) (refl, r.1)

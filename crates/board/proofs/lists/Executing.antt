@@ -2,15 +2,17 @@
 use Rattle.std.specs.Prelude.{Option, Some, None}
 use mathlib.Core.Path.{◌≡◌, refl, sym, ap, subst, ◌∙◌}
 use mathlib.Core.List.{List, [], ◌∷◌, ◌++◌, append_assoc, append-nil}
-use Prim.Native.Nat.{ℕ, zero, suc, ◌+◌, ◌*◌, ◌≤◌}
+use Prim.Native.Nat.{ℕ, zero, suc, ◌+◌, ◌*◌, ◌≤◌, ◌<◌}
 use native.Mathlib.Numerals.{add-one}
 use native.Mathlib.Omega.{arith}
 use lib.IntN.{ℤ}
-use lib.ListN.{length, drop, length-append}
-use lib.Seq.{drop-drop}
+use lib.ListN.{length, take, drop, get_or, length-append}
+use lib.Seq.{drop-drop, get_or-take}
+use Rattle.std.specs.Simd.{first_chunks}
 use Rattle.board.specs.declared.log.Record.{Record}
 use Rattle.board.specs.Log.{write_at}
 use Rattle.board.proofs.log.Words.{write-write}
+use Rattle.board.proofs.row.Encoding.{row-cut}
 use Rattle.board.specs.declared.Board.{Board}
 use Rattle.board.specs.Board.{fresh_board}
 use Rattle.board.specs.Cut.{All, performs}
@@ -21,7 +23,7 @@ use Rattle.board.specs.Call.{Reply, refused, gridstep, does, world}
 use Rattle.board.proofs.call.Machine.{counts}
 use Rattle.board.proofs.tick.Staging.{write-none}
 use Rattle.board.specs.Lists.{cut_up, start, replayed, rows_both, Executed}
-use Rattle.board.specs.Row.{call_width, reply_width, call_at, rows_of, calls_in, numbers_of, numbers_in, answers_to, row_does, rows_do, RowDone}
+use Rattle.board.specs.Row.{call_width, reply_width, call_at, rows_of, calls_in, numbers_of, numbers_in, answers_to, row_does, rows_do, RowAnswered}
 
 -- ---- row after row
 
@@ -72,6 +74,21 @@ numbers_more [] x = append-nil (numbers_of x)
 numbers_more (y ∷ ys) x =
     ap (λ (ns : List ℕ). numbers_of y ++ ns) (numbers_more ys x) ∙ sym (append_assoc (numbers_of y) (numbers_in ys) (numbers_of x))
 
+-- row i of those that calls are cut into, as many of them as count
+pub row_at : (k count i : ℕ) (calls : List ℤ) {rows : List (List ℤ)} → rows ≡ first_chunks call_width k calls → count ≤ k → i < count →
+    call_at (get_or (take count rows) i []) ≡ call_at (drop (i * call_width) calls)
+row_at k count i calls {rows} e l h =
+    ap call_at (get_or-take count rows i [] h ∙ ap (λ (xs : List (List ℤ)). get_or xs i []) e ∙ chunk k i calls (omega arith))
+    ∙ row-cut (drop (i * call_width) calls)
+  where
+    chunk : (k i : ℕ) (zs : List ℤ) → i < k → get_or (first_chunks call_width k zs) i [] ≡ take call_width (drop (i * call_width) zs)
+    chunk zero i zs h = absurd (omega arith)
+    chunk (suc k) zero zs h = refl
+    chunk (suc k) (suc i) zs h =
+        let e : call_width + i * call_width ≡ suc i * call_width = omega arith in
+        chunk k i (drop call_width zs) (omega arith)
+        ∙ ap (take call_width) (drop-drop (i * call_width) call_width zs ∙ ap (λ (k : ℕ). drop k zs) e)
+
 -- the first rows from a fresh board
 abbrev pub rows_from : List ℤ → List ℕ → ℕ → All Reply (World Board)
 rows_from calls log n = rows_do (rows_of n calls) (world fresh_board log)
@@ -98,28 +115,29 @@ module _ (calls : List ℤ) (log replies : List ℕ) where
       }
 
   -- one more is done
-  pub rows_step : (n : ℕ) (b b' : Board) (l l' r r' : List ℕ) → RowsDone calls log replies n b l r → n * reply_width + reply_width ≤ length replies →
-      RowDone (call_at (drop (n * call_width) calls)) (world b l) r (n * reply_width) b' l' r' → length l' ≡ length l → length r' ≡ length r →
-      RowsDone calls log replies (n + 1) b' l' r'
-  rows_step n b b' l l' r r' h room d e f =
+  pub rows_step : (n : ℕ) (b b' : Board) (l l' r r' x : List ℕ) {row : Option Call} → RowsDone calls log replies n b l r → n * reply_width + reply_width ≤ length replies →
+      row ≡ call_at (drop (n * call_width) calls) → RowAnswered row (world b l) b' l' x → length x ≡ reply_width → r' ≡ write_at r (n * reply_width) x →
+      length l' ≡ length l → length r' ≡ length r → RowsDone calls log replies (n + 1) b' l' r'
+  rows_step n b b' l l' r r' x {row} h room is d long wrote e f =
       let o : Option Call = call_at (drop (n * call_width) calls) in
       let a : All Reply (World Board) = rows_from calls log n in
-      let g : RowDone o a.last r (n * reply_width) b' l' r' = subst (λ (w : World Board). RowDone o w r (n * reply_width) b' l' r') h.left_is d in
-      let x : Reply = (row_does o a.last).answer in
-      let m : rows_from calls log (n + 1) ≡ record { answers = a.answers ++ (x ∷ []); last = (row_does o a.last).left } =
+      let g : RowAnswered o a.last b' l' x =
+      subst (λ (w : World Board). RowAnswered o w b' l' x) h.left_is (subst (λ (q : Option Call). RowAnswered q (world b l) b' l' x) is d) in
+      let y : Reply = (row_does o a.last).answer in
+      let m : rows_from calls log (n + 1) ≡ record { answers = a.answers ++ (y ∷ []); last = (row_does o a.last).left } =
       ap (λ (k : ℕ). rows_from calls log k) (add-one n)
       ∙ ap (λ (os : List (Option Call)). rows_do os (world fresh_board log)) (rows_next n calls)
       ∙ rows_more (rows_of n calls) o (world fresh_board log) in
-      let q : numbers_in (rows_from calls log (n + 1)).answers ≡ numbers_in a.answers ++ numbers_of x =
-      ap (λ (p : All Reply (World Board)). numbers_in p.answers) m ∙ numbers_more a.answers x in
+      let q : numbers_in (rows_from calls log (n + 1)).answers ≡ numbers_in a.answers ++ x =
+      ap (λ (p : All Reply (World Board)). numbers_in p.answers) m ∙ numbers_more a.answers y
+      ∙ ap (λ (ns : List ℕ). numbers_in a.answers ++ ns) (sym g.reply_is) in
       record {
-        left_is = (λ i. world (g.board_is i) (g.log_is i)) ∙ sym (ap (λ (p : All Reply (World Board)). p.last) m);
-        long =
-            ap length q ∙ length-append (numbers_in a.answers) (numbers_of x) ∙ (λ i. h.long i + g.reply_long i) ∙ omega arith;
+        left_is = g.left_is ∙ sym (ap (λ (p : All Reply (World Board)). p.last) m);
+        long = ap length q ∙ length-append (numbers_in a.answers) x ∙ (λ i. h.long i + long i) ∙ omega arith;
         replies_are =
-            g.reply_is
-            ∙ ap (λ (ys : List ℕ). write_at ys (n * reply_width) (numbers_of x)) h.replies_are
-            ∙ write-write replies (numbers_in a.answers) (numbers_of x) 0 (n * reply_width) (omega (arith, h.long)) (omega (arith, g.reply_long))
+            wrote
+            ∙ ap (λ (ys : List ℕ). write_at ys (n * reply_width) x) h.replies_are
+            ∙ write-write replies (numbers_in a.answers) x 0 (n * reply_width) (omega (arith, h.long)) (omega (arith, long))
             ∙ ap (write_at replies 0) (sym q);
         log_long = e ∙ h.log_long;
         replies_long = f ∙ h.replies_long;

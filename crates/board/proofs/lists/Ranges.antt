@@ -25,10 +25,10 @@ use Rattle.board.specs.declared.log.Record.{Record}
 use Rattle.board.specs.declared.call.Call.{Call}
 use Rattle.board.specs.declared.call.Call.TheVariants as call
 use Rattle.board.specs.Log.{kind_test, record_bytes, unpack_of, record_is, record_values}
-use Rattle.board.specs.Points.{ascending_from, key, keys_of, infos_of, track_count, waits, command_of, target_of}
+use Rattle.board.specs.Points.{ascending_from, key, keys_of, infos_of, track_count, waits, command_of, target_of, InfoRule}
 use Rattle.board.specs.Board.{no_track, track_at, is_present, Unbroken}
 use Rattle.board.specs.Tick.{members, Stage, staged, point_records, change_records, found_by, step_records, reached_by}
-use Rattle.board.specs.Tick.{step_member, step_all, command_records, obeyed, obeyed_records, run_all, playing_word, band_records, follow_word, follow_all, play_from, tick_of, InfoRule}
+use Rattle.board.specs.Tick.{step_member, step_all, command_records, obeyed, obeyed_records, run_all, playing_word, band_records, follow_word, follow_all, play_from, tick_of}
 use Rattle.board.specs.Mode.{ModeResult, mode_result}
 use Rattle.board.specs.Replay.{Each}
 use Rattle.board.specs.Call.{makes_of, gridstep}
@@ -293,7 +293,7 @@ module _ (n : ℕ) (b : Board) (w : Unbroken b) where
   unfolding makes_of Each
   call-ranged (call.AddTrack i lo hi) = tt
   call-ranged (call.SetUp i c) = tt
-  call-ranged (call.SetPoint i p e f c g) = tt
+  call-ranged (call.SetPoint i p) = tt
   call-ranged (call.DropPoint i p) = tt
   call-ranged (call.Play i) = mode-ranged i PLAY
   call-ranged (call.Pause i) = mode-ranged i PAUSE

@@ -1,5 +1,5 @@
 -- Demand 3: for every list of calls from a fresh board, what the functions' own contracts say of it is the replay's.
-use Rattle.std.specs.Prelude.{Result}
+use Rattle.std.specs.Prelude.{Result, Ok, Err}
 use Rattle.track.specs.declared.refusal.Refusal.{Refusal}
 use Rattle.std.specs.Prelude.{Option, Some, None}
 use mathlib.Core.Path.{◌≡◌, refl, sym, ◌∙◌, ap, subst}
@@ -10,7 +10,7 @@ use lib.ListN.{length, length-map}
 use contract.Lifetimes.{Lfts}
 use denote.Ref.{Bor, MutBor}
 use Rattle.track.specs.declared.refusal.Refusal.TheVariants as refusal
-use Rattle.track.specs.Refusal.{number_of}
+use Rattle.track.specs.Refusal.{Answer, Accepted, Refused, number_of}
 use Rattle.track.specs.Grid.{PLAY, PAUSE, RESUME, STOP}
 use Rattle.track.proofs.Numbers.{natural-of}
 use Rattle.board.specs.declared.Board.{Board}
@@ -26,19 +26,20 @@ use Rattle.board.specs.declared.call.Call.TheVariants as call
 use Rattle.board.specs.Board.{fresh_board, Unbroken}
 use Rattle.board.specs.Setup.{Outcome, outcome}
 use Rattle.board.specs.Query.{clock_of, track_of, point_in, count_in}
-use Rattle.board.specs.Mode.{ModeResult, mode_result}
+use Rattle.board.specs.Mode.{mode_result}
 use Rattle.board.specs.Cut.{Ran, ticks, Did, All, run, sorted, part, performs, Recut, observe}
-use Rattle.board.specs.Replay.{World, State, wrote, perform, w-bar, w-halt, w-step, replay, r-bar, r-halt, r-step, written, writtens, flat}
+use Rattle.board.specs.Replay.{World, State, perform, w-bar, w-halt, w-step, replay, r-bar, r-halt, r-step, written, writtens, flat}
 use Rattle.board.specs.Replay.{shown, only, gathered, ticked, total}
-use Rattle.board.specs.Call.{Reply, refused, answered, clock_said, track_said, point_said, count_said, advanced_said, Stop, ends, fills, stopped_by}
-use Rattle.board.specs.Call.{taken_in, why_not, bar_of, barred, pair_numbers, says_of, makes_of, made_by, gridstep, most, run_count, advance_by, does}
+use Rattle.board.specs.Call.{Reply, refused, answered, said_by, clock_said, track_said, point_said, count_said, advanced_said, Stop, ends, fills, stopped_by}
+use Rattle.board.specs.Call.{taken_in, why_not, bar_of, barred, pair_numbers, says_of, makes_of, gridstep, most, run_count, advance_by, does}
 use Rattle.board.specs.Call.{world, Gives}
 use Rattle.board.specs.Lists.{cut_up, start, replayed}
 use Rattle.board.specs.Arrivals.{arrivals_in, arrival_record, arrival_records, is_point}
 use Rattle.board.proofs.replay.Cuts.{recut, cut, advance-add, advance-in, advance-out}
 use Rattle.board.proofs.replay.Replays.{shown-takes, w_kept, agrees, rows, cuts}
 use Rattle.board.proofs.replay.Kinds.{kinds, gathered-length, total-same}
-use Rattle.board.proofs.call.Given.{Given, counted, Bars, bars, set-up-given, add-track-given, set-point-given, drop-point-given, set-master-given, clear-given, mode-given}
+use Rattle.board.proofs.call.Given.{Given, Bars, bars, set-up-given, add-track-given, set-point-given, drop-point-given, set-master-given, clear-given, mode-given}
+use Rattle.board.proofs.call.Refusals.{refused-equal}
 use Rattle.board.proofs.call.Machine.{counts, room, kept, read, call-whole}
 use Rattle.board.proofs.call.Enough.{SameMaster, pairs_of, pairs-enough}
 use Rattle.board.proofs.lists.Reports.{tick-points, call-points}
@@ -78,9 +79,9 @@ Step (call.AddTrack i lo hi) w a v =
     (r : Result Board Refusal) × add-track-says.Learnt tt (w.board, (i, (lo, (hi, tt)))) r (w.board, (i, (lo, (hi, tt)))) × LeftAs r w.board w.log a v
 Step (call.SetUp i c) w a v =
     (r : Result Board Refusal) × set-up-says.Learnt tt (w.board, (i, (c, tt))) r (w.board, (i, (c, tt))) × LeftAs r w.board w.log a v
-Step (call.SetPoint i p e f c g) w a v =
+Step (call.SetPoint i p) w a v =
     (r : Result Board Refusal)
-    × set-point-says.Learnt tt (w.board, (i, (p, (e, (f, (c, (g, tt))))))) r (w.board, (i, (p, (e, (f, (c, (g, tt)))))))
+    × set-point-says.Learnt tt (w.board, (i, (p, tt))) r (w.board, (i, (p, tt)))
     × LeftAs r w.board w.log a v
 Step (call.DropPoint i p) w a v =
     (r : Result Board Refusal) × drop-point-says.Learnt tt (w.board, (i, (p, tt))) r (w.board, (i, (p, tt))) × LeftAs r w.board w.log a v
@@ -140,7 +141,7 @@ lent_is c w x y b {said} g e = gives-is (subst (λ (l : List ℕ). Gives (does c
 step_is : (c : Call) (w : World Board) {a : Reply} {v : World Board} → Step c w a v → does c w ≡ did a v
 step_is (call.AddTrack i lo hi) w s = gives-is (s.1 w.log) s.2
 step_is (call.SetUp i c) w s = gives-is (s.1 w.log) s.2
-step_is (call.SetPoint i p e f c g) w s = gives-is (s.1 w.log) s.2
+step_is (call.SetPoint i p) w s = gives-is (s.1 w.log) s.2
 step_is (call.DropPoint i p) w s = gives-is (s.1 w.log) s.2
 step_is (call.Play i) w s = lent_is (call.Play i) w s.1 s.2 (outcome w.board s.3).board s.4 s.5 s.6
 step_is (call.Pause i) w s = lent_is (call.Pause i) w s.1 s.2 (outcome w.board s.3).board s.4 s.5 s.6
@@ -262,24 +263,6 @@ lends l = record { ref_ptr = (0, 0); ghost_name = 0; now = l }
 gives_left : {d : Did Reply (World Board)} {said : Reply} {b : Board} {l : List ℕ} → Gives d said b l → Left said b l d.answer d.left
 gives_left g = (sym g.answer_is, λ i. world (sym g.board_is i) (sym g.log_is i))
 
--- a mode call's function can answer and leave what the call does
-mode-met : (κs : Lfts 1) (c : Call) (w : World Board) (m : ModeResult) → Given w.board (counted w m) → answered m.answer ≡ (does c w).answer
-    → (wrote gridstep (made_by m) w).board ≡ (does c w).left.board
-    → (κs : Lfts 1) × (x : MutBor (List ℕ)) × (y : MutBor (List ℕ)) × (r : Result Board Refusal)
-    × Gives (does c (world w.board x.now)) (answered (outcome w.board r).answer) (outcome w.board r).board y.now
-    × (x.now ≡ w.log) × LeftAs r w.board y.now (does c w).answer (does c w).left
-unfolding lends
-mode-met κs c w m k e f =
-    let d = does c w in
-    let o = outcome w.board k.result in
-    let g : Gives d (answered o.answer) o.board d.left.log =
-    record {
-      answer_is = ap (λ (o : Outcome). answered o.answer) k.is ∙ e;
-      board_is = ap (λ (o : Outcome). o.board) k.is ∙ f;
-      log_is = refl;
-    } in
-    (κs, lends w.log, lends d.left.log, k.result, g, refl, gives_left g)
-
 -- what an advance answers is an answer that its function can give
 pub record Said (a : Reply) : Type 0 where
   pub told : Advanced
@@ -315,6 +298,68 @@ advance-said n w = go (run_count (call.Advance n))
     go None = outside (bar_of (length w.log) w.board) refl
     go (Some k) = runs k (w-bar gridstep w) refl
 
+-- a number that a result gives as a refusal is one of the eleven
+given-known : {b : Board} {o : Outcome} {n : ℕ} → Given b o → refused n ≡ answered o.answer → Bars n
+given-known {b} {n = n} g e = go g.result (e ∙ ap (λ (o : Outcome). answered o.answer) (sym g.is))
+  where
+    go : (r : Result Board Refusal) → refused n ≡ answered (outcome b r).answer → Bars n
+    go (Ok c) e = absurd (cc)
+    go (Err x) e = record { refusal = x; is = cc }
+
+-- so is one that a query gives, whose values are no refusals
+said-known : {A : Type 0} {n : ℕ} (f : A → Reply) → ((x : A) → refused n ≡ f x → Bars n) → (r : Result A Refusal) → refused n ≡ said_by f r → Bars n
+said-known f h (Ok x) e = h x e
+said-known f h (Err x) e = record { refusal = x; is = cc }
+
+-- and one that an advance gives
+advanced-known : {n : ℕ} (a : Advanced) → refused n ≡ advanced_said a → Bars n
+advanced-known (advanced.Done t) e = absurd (cc)
+advanced-known (advanced.LogFull t) e = absurd (cc)
+advanced-known (advanced.ClockEnd t) e = absurd (cc)
+advanced-known (advanced.Refused x) e = record { refusal = x; is = cc }
+
+-- every refusal, of any call, is one of the eleven
+pub refused-known : (c : Call) (w : World Board) {n : ℕ} → refused n ≡ (does c w).answer → Bars n
+unfolding run_count says_of
+refused-known (call.AddTrack i lo hi) w e = given-known (add-track-given w.board i lo hi) e
+refused-known (call.SetUp i c) w e = given-known (set-up-given w.board i c) e
+refused-known (call.SetPoint i p) w e = given-known (set-point-given w.board i p) e
+refused-known (call.DropPoint i p) w e = given-known (drop-point-given w.board i p) e
+refused-known (call.Play i) w e = given-known (mode-given w i PLAY) e
+refused-known (call.Pause i) w e = given-known (mode-given w i PAUSE) e
+refused-known (call.Resume i) w e = given-known (mode-given w i RESUME) e
+refused-known (call.Stop i) w e = given-known (mode-given w i STOP) e
+refused-known (call.Advance k) w e = advanced-known (advance-said k w).told (e ∙ sym (advance-said k w).is)
+refused-known call.Clear w e = given-known (clear-given w.board) e
+refused-known call.Clock w e = said-known _ (λ x e. absurd (cc)) (clock_of w.board) e
+refused-known (call.Track i) w e = said-known _ (λ x e. absurd (cc)) (track_of w.board i) e
+refused-known (call.Point i p) w e = said-known _ (λ x e. absurd (cc)) (point_in w.board i p) e
+refused-known (call.PointCount i from to) w e = said-known _ (λ x e. absurd (cc)) (count_in w.board i from to) e
+refused-known (call.Master i m ps) w e = given-known (set-master-given w.board i m (pair_numbers ps)) e
+
+-- what is accepted leaves the new board, and what is refused leaves the board as it was
+left-given : (c : Call) (w : World Board) (a : Answer) → answered a ≡ (does c w).answer → Given w.board (record { answer = a; board = (does c w).left.board })
+left-given c w Accepted e = record { result = Ok (does c w).left.board; is = refl }
+left-given c w (Refused n) e = let k = refused-known c w e in record { result = Err k.refusal; is = rw (k.is, refused-equal c w n (sym e)) }
+
+-- a call that is accepted or refused can be answered by a function that is lent board and log, and left as the call leaves them
+mode-met : (κs : Lfts 1) (c : Call) (w : World Board) (a : Answer) → answered a ≡ (does c w).answer
+    → (κs : Lfts 1) × (x : MutBor (List ℕ)) × (y : MutBor (List ℕ)) × (r : Result Board Refusal)
+    × Gives (does c (world w.board x.now)) (answered (outcome w.board r).answer) (outcome w.board r).board y.now
+    × (x.now ≡ w.log) × LeftAs r w.board y.now (does c w).answer (does c w).left
+unfolding lends
+mode-met κs c w a e =
+    let d = does c w in
+    let k = left-given c w a e in
+    let o = outcome w.board k.result in
+    let g : Gives d (answered o.answer) o.board d.left.log =
+    record {
+      answer_is = ap (λ (o : Outcome). answered o.answer) k.is ∙ e;
+      board_is = ap (λ (o : Outcome). o.board) k.is;
+      log_is = refl;
+    } in
+    (κs, lends w.log, lends d.left.log, k.result, g, refl, gives_left g)
+
 numbered : List ℤ → Bor (List ℤ)
 numbered l = record { ref_ptr = (0, 0); now = l }
 
@@ -322,12 +367,12 @@ step-met : (κs : Lfts 1) (c : Call) (w : World Board) → Step c w (does c w).a
 unfolding run_count says_of makes_of lends numbered
 step-met κs (call.AddTrack i lo hi) w = let k = add-track-given w.board i lo hi in let l = add-track-leaves w.board i lo hi k.is in (k.result, l, gives_left (l w.log))
 step-met κs (call.SetUp i c) w = let k = set-up-given w.board i c in let l = set-up-leaves w.board i c k.is in (k.result, l, gives_left (l w.log))
-step-met κs (call.SetPoint i p e f c g) w = let k = set-point-given w.board i p e f c g in let l = set-point-leaves w.board i p e f c g k.is in (k.result, l, gives_left (l w.log))
+step-met κs (call.SetPoint i p) w = let k = set-point-given w.board i p in let l = set-point-leaves w.board i p k.is in (k.result, l, gives_left (l w.log))
 step-met κs (call.DropPoint i p) w = let k = drop-point-given w.board i p in let l = drop-point-leaves w.board i p k.is in (k.result, l, gives_left (l w.log))
-step-met κs (call.Play i) w = mode-met κs (call.Play i) w (mode_result w.board (length w.log) i PLAY) (mode-given w i PLAY) refl refl
-step-met κs (call.Pause i) w = mode-met κs (call.Pause i) w (mode_result w.board (length w.log) i PAUSE) (mode-given w i PAUSE) refl refl
-step-met κs (call.Resume i) w = mode-met κs (call.Resume i) w (mode_result w.board (length w.log) i RESUME) (mode-given w i RESUME) refl refl
-step-met κs (call.Stop i) w = mode-met κs (call.Stop i) w (mode_result w.board (length w.log) i STOP) (mode-given w i STOP) refl refl
+step-met κs (call.Play i) w = mode-met κs (call.Play i) w (mode_result w.board (length w.log) i PLAY).answer refl
+step-met κs (call.Pause i) w = mode-met κs (call.Pause i) w (mode_result w.board (length w.log) i PAUSE).answer refl
+step-met κs (call.Resume i) w = mode-met κs (call.Resume i) w (mode_result w.board (length w.log) i RESUME).answer refl
+step-met κs (call.Stop i) w = mode-met κs (call.Stop i) w (mode_result w.board (length w.log) i STOP).answer refl
 step-met κs (call.Advance n) w =
     let d = does (call.Advance n) w in
     let s = advance-said n w in

@@ -166,7 +166,7 @@ pub call-points : (c : Call) (n : ℕ) (b : Board) → only is_point (makes_of c
 unfolding makes_of
 call-points (call.AddTrack i lo hi) n b = refl
 call-points (call.SetUp i c) n b = refl
-call-points (call.SetPoint i p e w c g) n b = refl
+call-points (call.SetPoint i p) n b = refl
 call-points (call.DropPoint i p) n b = refl
 call-points (call.Play i) n b = mode-none b n i PLAY
 call-points (call.Pause i) n b = mode-none b n i PAUSE

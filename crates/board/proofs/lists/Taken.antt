@@ -49,7 +49,7 @@ no-ticks : (c : Call) (n : ℕ) (b : Board) → taken_in (says_of c n b) ≡ 0
 unfolding says_of
 no-ticks (call.AddTrack i lo hi) n b = taken-answered (add_track b i lo hi).answer
 no-ticks (call.SetUp i c) n b = taken-answered (set_up b i c).answer
-no-ticks (call.SetPoint i p e w c g) n b = taken-answered (set_point b i p e w c g).answer
+no-ticks (call.SetPoint i p) n b = taken-answered (set_point b i p).answer
 no-ticks (call.DropPoint i p) n b = taken-answered (drop_point b i p).answer
 no-ticks (call.Play i) n b = taken-answered (mode_result b n i PLAY).answer
 no-ticks (call.Pause i) n b = taken-answered (mode_result b n i PAUSE).answer
@@ -77,7 +77,7 @@ module _ (n : ℕ) (b : Board) where
   unfolding makes_of
   same-clock (call.AddTrack i lo hi) = add-track-ways b Same (λ k. refl) i lo hi (λ j low high _ _ _ _. refl)
   same-clock (call.SetUp i c) = set-up-ways b Same (λ k. refl) i c (λ j _. refl)
-  same-clock (call.SetPoint i p e w c g) = set-point-ways b Same (λ k. refl) i p e w c g (λ q _ _. refl)
+  same-clock (call.SetPoint i p) = set-point-ways b Same (λ k. refl) i p (λ q _ _. refl)
   same-clock (call.DropPoint i p) = drop-point-ways b Same (λ k. refl) i p (λ j _. refl)
   same-clock (call.Play i) = mode-clock i PLAY
   same-clock (call.Pause i) = mode-clock i PAUSE

@@ -70,13 +70,13 @@ signed-twos c h =
     (λ l. signed-neg (4294967296 - suc (4295967295 - c.0)) (omega arith) ∙ ap negsuc (omega arith))
 
 -- a coordinate less 1,000,000, wrapped, is its position's two's complement; and back
-pub twos-wrapped : (c : Coordinate) → c.0 < 4294967296 → (c.0 + 4293967296) % 4294967296 ≡ twos_of (position_of c)
+pub twos_wrapped : (c : Coordinate) → c.0 < 4294967296 → (c.0 + 4293967296) % 4294967296 ≡ twos_of (position_of c)
 unfolding twos_of
-twos-wrapped c h =
+twos_wrapped c h =
     by-position (λ (z : ℤ). (c.0 + 4293967296) % 4294967296 ≡ twos_of z) c (λ l. omega arith) (λ l m. omega arith) (λ l. omega arith)
 
-pub coordinate-wrapped : (w : ℕ) → w < 4294967296 → position_of (record { 0 = (w + 1000000) % 4294967296 }) ≡ signed_of w
-coordinate-wrapped w h =
+pub coordinate_wrapped : (w : ℕ) → w < 4294967296 → position_of (record { 0 = (w + 1000000) % 4294967296 }) ≡ signed_of w
+coordinate_wrapped w h =
     by-position (λ (z : ℤ). z ≡ signed_of w) (record { 0 = (w + 1000000) % 4294967296 })
     (λ l. ap negsuc (omega arith) ∙ sym (signed-neg w (omega arith)))
     (λ l m. ap pos (omega arith) ∙ sym (signed-pos w (omega arith)))
@@ -85,9 +85,9 @@ coordinate-wrapped w h =
 -- ---- the bytes of a record
 
 -- a record has 16 bytes
-pub length-record : (r : Record) → length (record_bytes r) ≡ record_width
+pub length_record : (r : Record) → length (record_bytes r) ≡ record_width
 unfolding record_bytes bytes_of le
-length-record r = refl
+length_record r = refl
 
 abbrev middle : Record → List ℕ
 middle r = r.track ∷ r.kind ∷ r.event ∷ r.detail ∷ []
@@ -206,16 +206,16 @@ module _ (r : Record) (s : List ℕ) (at : ℕ) where
 
   -- and every byte above it
   pub record-high : at + record_width ≤ length s → (i : ℕ) → at + record_width ≤ i → get_or (write_at s at (record_bytes r)) i 0 ≡ get_or s i 0
-  record-high h i l = write-high s (record_bytes r) at i (omega arith) (omega (arith, length-record r))
+  record-high h i l = write-high s (record_bytes r) at i (omega arith) (omega (arith, length_record r))
 
   -- and the length
   pub record-length : at + record_width ≤ length s → length (write_at s at (record_bytes r)) ≡ length s
-  record-length h = length-write s (record_bytes r) at (omega (arith, length-record r))
+  record-length h = length-write s (record_bytes r) at (omega (arith, length_record r))
 
   -- and is read there
   pub record-read : at + record_width ≤ length s → take record_width (drop at (write_at s at (record_bytes r))) ≡ record_bytes r
   record-read h =
-      ap (λ (n : ℕ). take n (drop at (write_at s at (record_bytes r)))) (sym (length-record r)) ∙ read-write s (record_bytes r) at (omega arith)
+      ap (λ (n : ℕ). take n (drop at (write_at s at (record_bytes r)))) (sym (length_record r)) ∙ read-write s (record_bytes r) at (omega arith)
 
   room : (kind_test r.kind && leb (at + record_width) (length s)) ≡ true → at + record_width ≤ length s
   room e = leb-true _ _ (both (kind_test r.kind) (leb (at + record_width) (length s)) e).1

@@ -84,9 +84,9 @@ word-bytes x = simp (div-div-eq-div-mul x 256 256, div-div-eq-div-mul x (256 * 2
 -- ---- a part of a list written over
 
 -- a part of a list that takes other elements is a write of them
-pub write-part : (at k : ℕ) (xs : List ℕ) {ys zs : List ℕ} → ys ≡ zs → k ≡ length zs → put_mid at k xs ys ≡ write_at xs at zs
+pub write_part : (at k : ℕ) (xs : List ℕ) {ys zs : List ℕ} → ys ≡ zs → k ≡ length zs → put_mid at k xs ys ≡ write_at xs at zs
 unfolding write_at
-write-part at k xs {ys} {zs} e l =
+write_part at k xs {ys} {zs} e l =
     (λ i. take at xs ++ (e i ++ drop (l i) (drop at xs))) ∙ ap (λ (r : List ℕ). take at xs ++ (zs ++ r)) (drop-drop (length zs) at xs)
 
 -- four stores are a write of four

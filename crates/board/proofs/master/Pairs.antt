@@ -1,14 +1,16 @@
 -- The pairs of a call that sets a master: what the numbers in their places say of the thresholds and events that they are.
 use Rattle.std.specs.Prelude.{Option, Some, None}
-use Prim.Native.Nat.{ℕ, zero, suc, ◌+◌, ◌≤◌, ◌<◌, min}
+use Prim.Native.Nat.{ℕ, zero, suc, ◌+◌, ◌*◌, ◌≤◌, ◌<◌}
 use mathlib.Core.Path.{◌≡◌, refl, sym, ◌∙◌, ap}
-use mathlib.Core.Bool.{Bool, true, false, cond, not, ◌&&◌, false≢true, and-false}
-use mathlib.Core.List.{List, [], ◌∷◌, ◌++◌}
+use mathlib.Core.Bool.{Bool, true, false, cond, not, ◌&&◌, false≢true}
+use mathlib.Core.List.{List, [], ◌∷◌}
 use native.Mathlib.Nat.{not-suc-le-zero, le_of_suc-le-suc}
 use native.Mathlib.Omega.{arith}
+use Rattle.std.specs.List.{list_all}
+use Rattle.std.specs.Simd.{first_chunks}
 use lib.Dec.{leb, eqb}
-use lib.IntN.{ℤ, pos}
-use lib.ListN.{length, get_or, set, drop}
+use lib.IntN.{ℤ}
+use lib.ListN.{length, get_or, set}
 use borrow.Author.Tests.{le-leb, lt-leb, leb-true, eq-eqb, ne_eqb}
 use Rattle.track.specs.Rule.{STOPPED, threshold_count, threshold_most, event_most}
 use Rattle.track.specs.Number.{natural_of}
@@ -23,26 +25,12 @@ use Rattle.board.specs.Board.{track_at, is_present, master_test}
 use Rattle.board.specs.Setup.{accepted, refused, board_with, put_master}
 use Rattle.board.specs.Setup.{is_in, number_in, number_at, ranged_test, thresholds_in, events_in, rising_test, row_of, master_named}
 
--- ---- a number from 1 on is 0 exactly if it is out of range
+-- ---- a number from 1 on, 0 if it is out of range
 
 module _ (z : ℤ) (most : ℕ) where
-  pub in-none : number_in (natural_of z 1 most) ≡ 0 → is_in (natural_of z 1 most) ≡ false
-  in-none = go (natural_of z 1 most) refl
-    where
-      go : (n : Option ℕ) → natural_of z 1 most ≡ n → number_in n ≡ 0 → is_in n ≡ false
-      go (Some k) e h = let r = (natural-in z 1 most e).1 in absurd (omega arith)
-      go None e h = refl
-
-  pub in_some : (number_in (natural_of z 1 most) ≡ 0 → ⊥) → is_in (natural_of z 1 most) ≡ true
-  in_some = go (natural_of z 1 most)
-    where
-      go : (n : Option ℕ) → (number_in n ≡ 0 → ⊥) → is_in n ≡ true
-      go (Some k) h = refl
-      go None h = absurd (h refl)
-
   -- it is never above the most
-  pub in-most : number_in (natural_of z 1 most) ≤ most
-  in-most = go (natural_of z 1 most) refl
+  pub in_most : number_in (natural_of z 1 most) ≤ most
+  in_most = go (natural_of z 1 most) refl
     where
       go : (n : Option ℕ) → natural_of z 1 most ≡ n → number_in n ≤ most
       go (Some k) e = (natural-in z 1 most e).2
@@ -60,58 +48,36 @@ module _ (z : ℤ) (most : ℕ) where
   pub in-nonzero : is_in (natural_of z 1 most) ≡ true → eqb (number_in (natural_of z 1 most)) 0 ≡ false
   in-nonzero h = let r = (in-range h).0 in ne_eqb (number_in (natural_of z 1 most)) 0 (λ e. absurd (omega arith))
 
-none-past : (most : ℕ) → number_in (natural_of (pos 0) 1 most) ≡ 0
-unfolding natural_of
-none-past most = simp and-false
+-- ---- the pairs one by one
 
--- ---- a pass over the pairs
+both-first : (a b : Bool) {l r : Bool} → l ≡ r → ((a && (b && true)) && l) ≡ (a && (b && r))
+both-first true true e = e
+both-first true false e = refl
+both-first false b e = refl
 
--- the first threshold is out of range
-first-none : (x : ℤ) (rest : List ℤ) → number_in (natural_of x 1 threshold_most) ≡ 0 → ranged_test (x ∷ rest) ≡ false
+both-out : (a b : Bool) {r : Bool} → false ≡ r → false ≡ (a && (b && r))
+both-out true true e = e
+both-out true false e = refl
+both-out false b e = refl
+
+-- pairs with nothing left over are in range if each is
+pub ranged-whole : (k : ℕ) (zs : List ℤ) → length zs ≡ k * 2 → list_all ranged_test (first_chunks 2 k zs) ≡ ranged_test zs
 unfolding ranged_test
-first-none x [] h = refl
-first-none x (e ∷ zs) h = simp (in-none x threshold_most h)
+ranged-whole zero [] h = refl
+ranged-whole zero (x ∷ zs) h = absurd (omega (arith, h))
+ranged-whole (suc k) [] h = absurd (omega (arith, h))
+ranged-whole (suc k) (x ∷ []) h = absurd (omega (arith, h))
+ranged-whole (suc k) (x ∷ e ∷ zs) h =
+    both-first (is_in (natural_of x 1 threshold_most)) (is_in (natural_of e 1 event_most)) (ranged-whole k zs (omega (arith, h)))
 
--- or its event is, or is not there
-second_none : (x : ℤ) (rest : List ℤ) → number_at rest 0 event_most ≡ 0 → ranged_test (x ∷ rest) ≡ false
+-- a threshold without an event is in no range
+pub ranged-odd : (k : ℕ) (zs : List ℤ) → length zs ≡ k * 2 + 1 → false ≡ ranged_test zs
 unfolding ranged_test
-second_none x [] h = refl
-second_none x (e ∷ zs) h = simp (in-none e event_most h, and-false)
-
--- or both are in range, and those behind them decide
-both-in : (x : ℤ) (rest : List ℤ) → (number_in (natural_of x 1 threshold_most) ≡ 0 → ⊥) → (number_at rest 0 event_most ≡ 0 → ⊥) →
-    ranged_test (drop 1 rest) ≡ ranged_test (x ∷ rest)
-unfolding ranged_test natural_of
-both-in x [] g h = absurd (h refl)
-both-in x (e ∷ zs) g h = simp (in_some x threshold_most g, in_some e event_most h)
-
--- a turn with the first two of the numbers, or the last one
-module _ {all : List ℤ} where
-  pub chunk-low : (ps rest : List ℤ) → all ≡ ps ++ rest → length ps ≡ min 2 (length all) → 0 < length all →
-      number_at ps 0 threshold_most ≡ 0 → false ≡ ranged_test all
-  chunk-low [] rest e l some h = absurd (omega arith)
-  chunk-low (x ∷ ps) rest e l some h = sym (ap ranged_test e ∙ first-none x (ps ++ rest) h)
-
-  pub chunk-event : (ps rest : List ℤ) → all ≡ ps ++ rest → length ps ≡ min 2 (length all) → 0 < length all →
-      number_at ps 1 event_most ≡ 0 → false ≡ ranged_test all
-  unfolding ranged_test
-  chunk-event [] rest e l some h = absurd (omega arith)
-  chunk-event (x ∷ []) [] e l some h = sym (ap ranged_test e)
-  chunk-event (x ∷ []) (y ∷ rest) e l some h = let n : length all ≡ suc (suc (length rest)) = ap length e in absurd (omega arith)
-  chunk-event (x ∷ y ∷ ps) rest e l some h = sym (ap ranged_test e ∙ second_none x (y ∷ (ps ++ rest)) h)
-
-  pub chunk-next : (ps rest : List ℤ) → all ≡ ps ++ rest → length ps ≡ min 2 (length all) → 0 < length all →
-      (number_at ps 0 threshold_most ≡ 0 → ⊥) → (number_at ps 1 event_most ≡ 0 → ⊥) → ranged_test rest ≡ ranged_test all
-  chunk-next [] rest e l some g h = absurd (omega arith)
-  chunk-next (x ∷ []) rest e l some g h = absurd (h (none-past event_most))
-  chunk-next (x ∷ y ∷ []) rest e l some g h = both-in x (y ∷ rest) g h ∙ sym (ap ranged_test e)
-  chunk-next (x ∷ y ∷ z ∷ ps) rest e l some g h = absurd (omega arith)
-
--- behind the last
-pub chunk-end : (zs : List ℤ) → length zs ≡ 0 → true ≡ ranged_test zs
-unfolding ranged_test
-chunk-end [] l = refl
-chunk-end (z ∷ zs) l = absurd (omega arith)
+ranged-odd k [] h = absurd (omega (arith, h))
+ranged-odd k (x ∷ []) h = refl
+ranged-odd zero (x ∷ e ∷ zs) h = absurd (omega (arith, h))
+ranged-odd (suc k) (x ∷ e ∷ zs) h =
+    both-out (is_in (natural_of x 1 threshold_most)) (is_in (natural_of e 1 event_most)) (ranged-odd k zs (omega (arith, h)))
 
 -- ---- pairs in their ranges
 
@@ -269,8 +235,8 @@ module _ (b : Board) (i m : ℕ) (zs : List ℤ) (stopped : (track_at b.tracks i
       let f : (not (eqb i m) && ranged_test zs) ≡ true = both_is (ap not (ne_eqb i m other)) ranged in
       cond_yes _ _ (eq-eqb _ _ stopped) (cond_yes _ _ f e)
 
-  pub put-many : 8 < length zs → refused 10 b ≡ put_master b i m zs
-  put-many l = valued (cond_no _ _ (pairs-many zs ranged l) refl)
+  pub put_many : 8 < length zs → refused 10 b ≡ put_master b i m zs
+  put_many l = valued (cond_no _ _ (pairs-many zs ranged l) refl)
 
   module _ (l : length zs ≤ 8) {xs es : List ℕ}
       (ex : xs ≡ number_at zs 0 threshold_most ∷ number_at zs 2 threshold_most ∷ number_at zs 4 threshold_most ∷ number_at zs 6 threshold_most ∷ [])
@@ -282,13 +248,16 @@ module _ (b : Board) (i m : ℕ) (zs : List ℤ) (stopped : (track_at b.tracks i
         ∙ (λ j. pairs_test 0 (thresholds-row zs ranged ex j) (events-row zs ranged ee j))
         ∙ pairs-rising zs ranged l
 
-    pub put-falling : k ≡ false → refused 10 b ≡ put_master b i m zs
-    put-falling h = valued (cond_no _ _ (sym rises ∙ h) refl)
+    pub put_falling : k ≡ false → refused 10 b ≡ put_master b i m zs
+    put_falling h = valued (cond_no _ _ (sym rises ∙ h) refl)
 
-    pub put-done : k ≡ true → {s : ℕ} → s ≡ master_named m zs → {u : Track} → u ≡ following (track_at b.tracks i) s xs es →
+    pub put_done : k ≡ true → {s : ℕ} → s ≡ master_named m zs → {u : Track} → u ≡ following (track_at b.tracks i) s xs es →
         accepted (board_with b (set b.tracks i u) b.present b.points b.held) ≡ put_master b i m zs
-    put-done h ev eu =
+    put_done h ev eu =
         valued
         (cond_yes _ _ (sym rises ∙ h)
         (ap (λ (v : Track). accepted (board_with b (set b.tracks i v) b.present b.points b.held))
         (eu ∙ (λ j. following (track_at b.tracks i) (ev j) (thresholds-row zs ranged ex j) (events-row zs ranged ee j)))))
+
+-- the ways out of setting a master
+pub ruleset putting = (put_many, put_falling, put_done)

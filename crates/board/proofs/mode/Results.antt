@@ -23,10 +23,9 @@ use Rattle.board.specs.Board.{track_at, found_in, Unbroken}
 use Rattle.board.specs.Setup.{refused, accepted, board_with}
 use Rattle.board.specs.Mode.{ModeResult, declined, call_records, changing, changes_to, decided, mode_result}
 use Rattle.board.specs.declared.mode.ModeChange.{ModeChange}
-use Rattle.board.specs.Replay.{World, flat}
-use Rattle.board.specs.declared.call.Call.TheVariants as call
-use Rattle.track.specs.Grid.{PLAY, PAUSE, RESUME, STOP, grid_of}
-use Rattle.board.specs.Call.{Reply, answered, gridstep, run_count, says_of, makes_of, does, mode_does, world, Gives, ChangesMode}
+use Rattle.board.specs.Replay.{flat}
+use Rattle.track.specs.Grid.{grid_of}
+use Rattle.board.specs.Call.{answered, gridstep, mode_does, world, Gives, ChangesMode}
 use Rattle.board.proofs.replay.Replays.{sets-write}
 use Rattle.board.proofs.rules.Broken.{unbroken-is}
 use Rattle.board.proofs.call.Machine.{flat-is, result-ways}
@@ -61,24 +60,6 @@ module _ (b : Board) (log : List ℕ) where
   unfolding mode_does
   result-gives track code f =
       record { answer_is = ap answered f.answer_is; board_is = f.board_is; log_is = f.log_is ∙ result-log track code }
-
--- the same of each of the four, the number of the track as it was given
-module _ (w : World Board) {told given : ℤ} {a : Reply} {b : Board} {log : List ℕ} (e : told ≡ given) where
-  pub play-gives : Gives (mode_does PLAY told w) a b log → Gives (does (call.Play given) w) a b log
-  unfolding mode_does run_count says_of makes_of
-  play-gives g = subst (λ (t : ℤ). Gives (does (call.Play t) w) a b log) e g
-
-  pub pause-gives : Gives (mode_does PAUSE told w) a b log → Gives (does (call.Pause given) w) a b log
-  unfolding mode_does run_count says_of makes_of
-  pause-gives g = subst (λ (t : ℤ). Gives (does (call.Pause t) w) a b log) e g
-
-  pub resume-gives : Gives (mode_does RESUME told w) a b log → Gives (does (call.Resume given) w) a b log
-  unfolding mode_does run_count says_of makes_of
-  resume-gives g = subst (λ (t : ℤ). Gives (does (call.Resume t) w) a b log) e g
-
-  pub stop-gives : Gives (mode_does STOP told w) a b log → Gives (does (call.Stop given) w) a b log
-  unfolding mode_does run_count says_of makes_of
-  stop-gives g = subst (λ (t : ℤ). Gives (does (call.Stop t) w) a b log) e g
 
 -- what the grid lets act is accepted on an unbroken board, if its record, where it writes one, fits
 pub mode-goes : (b : Board) → Unbroken b → (n : ℕ) (track : ℤ) (i code mode : ℕ) → found_in b.present track ≡ Some i →

@@ -7,11 +7,13 @@ use mathlib.Core.Logic.{◌⊎◌, inl, inr, ⊎_elim}
 use mathlib.Core.Bool.{Bool, true, false, cond, ◌||◌, or-true, false≢true}
 use mathlib.Core.List.{List, [], ◌∷◌}
 use lib.ListN.{length, take, get_or}
-use lib.Seq.{length-take-le, get_or-take}
+use lib.Seq.{length-take-le}
 use lib.Dec.{leb, ltb, eqb}
 use borrow.Author.Tests.{lt-ltb, le-ltb, le-leb, eq-eqb, ne_eqb, leb-true, ltb-true, ltb-false, eqb-true, eqb-false}
-use Rattle.std.specs.List.Sorted.{IsPartitionedBy, IsPartitionPoint}
-use Rattle.std.proofs.lemmas.List.Sorted.{IsPartitionedBy-ltb, IsNonDecreasingBy-from_default}
+use Rattle.std.specs.Prelude.{Ok, Err}
+use Rattle.std.specs.Ordering.{nat_cmp}
+use Rattle.std.specs.List.Sorted.{IsPartitionedBy, IsPartitionPoint, IsBinarySearchResult}
+use Rattle.std.proofs.lemmas.List.Sorted.{IsPartitionedBy-ltb, IsNonDecreasingBy-from_default, searched}
 use Rattle.track.proofs.Tests.{refuted, both}
 use Rattle.board.specs.Points.{ascending_from, has_key, first_from}
 
@@ -87,6 +89,13 @@ pub first-is : (xs : List ℕ) (k : ℕ) → First xs k (first_from xs k)
 unfolding first_from
 first-is [] k = record { le = le_refl 0; below = λ j h. absurd (not-suc-le-zero h); at = λ h. absurd (not-suc-le-zero h) }
 first-is (x ∷ xs) k = first-cons x xs k (first_from xs k) (ltb x k) refl (first-is xs k)
+
+pub first_at : (xs : List ℕ) (k i : ℕ) → i ≡ first_from xs k → First xs k i
+first_at xs k i e = rw e (first-is xs k)
+
+-- the keys before it are as many as its index
+pub first-length : (xs : List ℕ) (k i : ℕ) → i ≡ first_from xs k → length (take i xs) ≡ i
+first-length xs k i e = length-take-le i xs (first_at xs k i e).le
 
 -- only the index of first_from is so
 pub first-unique : (xs : List ℕ) (k r : ℕ) → First xs k r → r ≡ first_from xs k
@@ -182,25 +191,40 @@ pub has-not : (k i : ℕ) (ks : List ℕ) → ascending_from 0 ks ≡ true → i
     → has_key k ks ≡ false
 has-not k i ks asc ei n = sym (refuted (has_key k ks) (λ h. let f = has_first k i ks asc ei h in n f.0 f.1))
 
--- ---- the first n keys of a row
+-- ---- the search for a key
 
-module _ (keys : List ℕ) (n k i : ℕ) (fits : n ≤ length keys) (ei : i ≡ first_from (take n keys) k) where
-  len : length (take n keys) ≡ n
-  len = length-take-le n keys fits
+-- what it says: whether the key is there, and that the index is the first from the key on
+pub record Searched (ks : List ℕ) (k i : ℕ) (there : Bool) : Type 0 where
+  pub has : has_key k ks ≡ there
+  pub place : i ≡ first_from ks k
 
-  pub row_first : First (take n keys) k i
-  row_first = rw ei (first-is (take n keys) k)
+module _ (ks : List ℕ) (k i : ℕ) (asc : ascending_from 0 ks ≡ true) where
+  -- by the first index from the key on
+  pub placed_there : i ≡ first_from ks k → (i < length ks) × ((d : ℕ) → k ≡ get_or ks i d) → Searched ks k i true
+  placed_there ei g = record { has = has-index k i ks g.0 (sym (g.1 0)); place = ei }
 
-  pub row-le : i ≤ n
-  row-le = let l = row_first.le in omega (arith, len)
+  pub placed_none : i ≡ first_from ks k → (i < length ks → get_or ks i 0 ≡ k → ⊥) → Searched ks k i false
+  placed_none ei n = record { has = has-not k i ks asc ei n; place = ei }
 
-  pub row_from : i < n → k ≤ get_or keys i 0
-  row_from l = let g = row_first.at (omega (arith, len)) in rw (get_or-take n keys i 0 l) at g
+  -- by the library's search
+  pub searched_there : IsBinarySearchResult (λ y. nat_cmp y k) ks (Ok i) → Searched ks k i true
+  searched_there h =
+      let s = searched ks k (Ok i) h (ascending-le 0 ks asc) in
+      record {
+        has = has-index k i ks s.0 s.1;
+        place =
+            first-unique ks k i
+            (record {
+              le = omega (arith, s.0);
+              below = λ j m. let b = ascending-lt 0 ks asc j i m s.0 in omega (arith, s.1);
+              at = λ m. omega (arith, s.1);
+            });
+      }
 
-  pub row_has : i < n → get_or keys i 0 ≡ k → has_key k (take n keys) ≡ true
-  row_has l e = has-index k i (take n keys) (omega (arith, len)) (get_or-take n keys i 0 l ∙ e)
-
-  pub row-has-not : ascending_from 0 (take n keys) ≡ true → (i < n → get_or keys i 0 ≡ k → ⊥) → has_key k (take n keys) ≡ false
-  row-has-not asc h =
-      has-not k i (take n keys) asc ei
-      (λ l e. let l' : i < n = omega (arith, len) in h l' (sym (get_or-take n keys i 0 l') ∙ e))
+  pub searched_none : IsBinarySearchResult (λ y. nat_cmp y k) ks (Err i) → Searched ks k i false
+  searched_none h =
+      let s = searched ks k (Err i) h (ascending-le 0 ks asc) in
+      let e =
+      first-unique ks k i
+      (record { le = s.0; below = s.1; at = λ m. let b = s.2 i (le_refl i) m in omega arith }) in
+      record { has = has-not k i ks asc e (λ l q. let b = s.2 i (le_refl i) l in omega arith); place = e }

@@ -8,13 +8,13 @@ use mathlib.Core.Logic.{◌⊎◌, inl, inr, ⊎_elim}
 use mathlib.Core.Bool.{Bool, true, false, cond, and-false, true≢false}
 use mathlib.Core.List.{List, [], ◌∷◌}
 use lib.ListN.{length, take, get_or}
-use lib.Seq.{length-take-le, get_or-take}
+use lib.Seq.{get_or-take}
 use lib.Dec.{leb, ltb}
 use borrow.Author.Tests.{lt-ltb, le-ltb, le-leb, lt-leb, leb-true, ltb-true}
 use Rattle.track.specs.declared.Coordinate.{Coordinate}
 use Rattle.track.proofs.Tests.{cond_cases, both}
 use Rattle.board.specs.Points.{stride, key, ascending_from, has_key, first_from, count_of, between, find_first, or_else, find_last, nearest}
-use Rattle.board.proofs.points.Keys.{lt-or-ge, ascending-rest, ascending-low, ascending-le, first-unique, row_first, row-le, has-head, has-tail, has-none, has-past, has-low, has-below}
+use Rattle.board.proofs.points.Keys.{lt-or-ge, ascending-rest, ascending-low, ascending-le, first-unique, first_at, first-length, has-head, has-tail, has-none, has-past, has-low, has-below}
 
 between_in : (from past x : ℕ) → from ≤ x → x < past → between from past x ≡ true
 unfolding between
@@ -122,69 +122,71 @@ module _ (p : ℕ → Bool) (track : ℕ) where
 
 -- ---- the ways out of first_between and last_between
 
-module _ (keys : List ℕ) (n track from past : ℕ) (fits : n ≤ length keys) (asc : ascending_from 0 (take n keys) ≡ true) where
-  len : length (take n keys) ≡ n
-  len = length-take-le n keys fits
+module _ (ks : List ℕ) (track from past : ℕ) (asc : ascending_from 0 ks ≡ true) where
+  module _ (i : ℕ) (ei : i ≡ first_from ks from) where
+    low : (j : ℕ) → j < i → between from past (get_or ks j 0) ≡ false
+    low j h = between-low from past _ ((first_at ks from i ei).below j h)
 
-  module _ (i : ℕ) (ei : i ≡ first_from (take n keys) from) where
-    low : (j : ℕ) → j < i → between from past (get_or (take n keys) j 0) ≡ false
-    low j h = between-low from past _ ((row_first keys n from i fits ei).below j h)
+    pub first-end : length ks ≤ i → None ≡ find_first (between from past) track ks
+    first-end h = sym (find_none (between from past) track ks (λ j m. low j (omega arith)))
 
-    pub first-end : n ≤ i → None ≡ find_first (between from past) track (take n keys)
-    first-end h = sym (find_none (between from past) track (take n keys) (λ j m. low j (omega (arith, len))))
+    -- the key that stands there
+    module _ (x : ℕ) (g : (i < length ks) × ((d : ℕ) → x ≡ get_or ks i d)) where
+      pub first-least : from ≤ x
+      first-least = let a = (first_at ks from i ei).at g.0 in omega (arith, g.1 0)
 
-    pub first-over : i < n → past ≤ get_or keys i 0 → None ≡ find_first (between from past) track (take n keys)
-    first-over l h =
-        let e = get_or-take n keys i 0 l in
-        sym
-        (find_none (between from past) track (take n keys)
-        (λ j m. ⊎_elim (low j)
-        (λ (g : i ≤ j). let o = ascending-le 0 (take n keys) asc i j g m in between-high from past _ (omega arith))
-        (lt-or-ge j i)))
-
-    pub first-here : i < n → get_or keys i 0 < past → found track (get_or keys i 0) ≡ find_first (between from past) track (take n keys)
-    first-here l h =
-        let e = get_or-take n keys i 0 l in
-        let il : i < length (take n keys) = omega (arith, len) in
-        let g = (row_first keys n from i fits ei).at il in
-        ap (found track) (sym e)
-        ∙ sym (find_at (between from past) track i (take n keys) il low (between_in from past _ (omega arith) (omega arith)))
-
-  module _ (i : ℕ) (ei : i ≡ first_from (take n keys) past) where
-    high : (j : ℕ) → i ≤ j → j < length (take n keys) → between from past (get_or (take n keys) j 0) ≡ false
-    high j h m =
-        let g = (row_first keys n past i fits ei).at (omega arith) in
-        let o = ascending-le 0 (take n keys) asc i j h m in
-        between-high from past _ (omega arith)
-
-    pub last_end : i ≡ 0 → None ≡ find_last (between from past) track (take n keys)
-    last_end h = sym (last_none (between from past) track (take n keys) (λ j m. high j (omega arith) m))
-
-    module _ (pos : i ≡ 0 → ⊥) where
-      below-n : i - 1 < n
-      below-n = let g = row-le keys n past i fits ei in omega arith
-
-      pub last_under : get_or keys (i - 1) 0 < from → None ≡ find_last (between from past) track (take n keys)
-      last_under h =
-          let e = get_or-take n keys (i - 1) 0 below-n in
+      pub first-over : past ≤ x → None ≡ find_first (between from past) track ks
+      first-over h =
           sym
-          (last_none (between from past) track (take n keys)
-          (λ j m. ⊎_elim
-          (λ (g : j < i).
-          let o = ascending-le 0 (take n keys) asc j (i - 1) (omega arith) (omega (arith, len, below-n)) in
-          between-low from past _ (omega arith))
-          (λ (g : i ≤ j). high j g m)
+          (find_none (between from past) track ks
+          (λ j m. ⊎_elim (low j)
+          (λ (l : i ≤ j). let o = ascending-le 0 ks asc i j l m in between-high from past _ (omega (arith, g.1 0)))
           (lt-or-ge j i)))
 
-      pub last-here : from ≤ get_or keys (i - 1) 0
-          → found track (get_or keys (i - 1) 0) ≡ find_last (between from past) track (take n keys)
+      pub first-here : x < past → found track x ≡ find_first (between from past) track ks
+      first-here h =
+          ap (found track) (g.1 0)
+          ∙ sym (find_at (between from past) track i ks g.0 low (between_in from past _ (omega (arith, g.1 0, first-least)) (omega (arith, g.1 0))))
+
+  module _ (i : ℕ) (ei : i ≡ first_from ks past) where
+    high : (j : ℕ) → i ≤ j → j < length ks → between from past (get_or ks j 0) ≡ false
+    high j h m =
+        let g = (first_at ks past i ei).at (omega arith) in
+        let o = ascending-le 0 ks asc i j h m in
+        between-high from past _ (omega arith)
+
+    len : length (take i ks) ≡ i
+    len = first-length ks past i ei
+
+    pub last_end : length (take i ks) ≤ 0 → None ≡ find_last (between from past) track ks
+    last_end h = sym (last_none (between from past) track ks (λ j m. high j (omega (arith, len)) m))
+
+    -- the last key before there
+    module _ (x : ℕ) (g : (0 < length (take i ks)) × ((d : ℕ) → x ≡ get_or (take i ks) (length (take i ks) - 1) d)) where
+      inside : i - 1 < length ks
+      inside = let l = (first_at ks past i ei).le in omega (arith, len, g.0)
+
+      is : x ≡ get_or ks (i - 1) 0
+      is = g.1 0 ∙ ap (λ (n : ℕ). get_or (take i ks) (n - 1) 0) len ∙ get_or-take i ks (i - 1) 0 (omega (arith, len, g.0))
+
+      pub last_under : x < from → None ≡ find_last (between from past) track ks
+      last_under h =
+          sym
+          (last_none (between from past) track ks
+          (λ j m. ⊎_elim
+          (λ (l : j < i).
+          let o = ascending-le 0 ks asc j (i - 1) (omega arith) inside in
+          between-low from past _ (omega (arith, is)))
+          (λ (l : i ≤ j). high j l m)
+          (lt-or-ge j i)))
+
+      pub last-here : from ≤ x → found track x ≡ find_last (between from past) track ks
       last-here h =
-          let e = get_or-take n keys (i - 1) 0 below-n in
-          let g = (row_first keys n past i fits ei).below (i - 1) (omega arith) in
-          ap (found track) (sym e)
+          let b = (first_at ks past i ei).below (i - 1) (omega (arith, len, g.0)) in
+          ap (found track) is
           ∙ sym
-          (last-at (between from past) track (i - 1) (take n keys) (omega (arith, len, below-n))
-          (between_in from past _ (omega arith) (omega arith)) (λ j m m'. high j (omega arith) m'))
+          (last-at (between from past) track (i - 1) ks inside
+          (between_in from past _ (omega (arith, is)) (omega arith)) (λ j l m. high j (omega arith) m))
 
 -- ---- the nearest point further on
 

@@ -12,10 +12,10 @@ use lib.Dec.{ltb}
 use borrow.Author.Tests.{lt-ltb, le-ltb, ltb-true, ltb-false}
 use Rattle.board.specs.declared.points.Points.{Points}
 use Rattle.board.specs.Points.{Stored}
-use Rattle.board.specs.Points.{point_most, ascending_from, has_key, first_from, insert_at, remove_at, insert_row, remove_row, info_at, keys_of, infos_of, replaced, added, stored_in, dropped_from}
+use Rattle.board.specs.Points.{point_most, has_key, first_from, insert_at, remove_at, insert_row, remove_row, info_at, keys_of, infos_of, replaced, added, stored_in, dropped_from}
 use Rattle.track.proofs.Tests.{cond_cases}
 use Rattle.board.proofs.points.Rows.{insert-row-take, insert-row-length, remove-row-take, remove-row-length, ascending-insert, ascending-remove}
-use Rattle.board.proofs.points.Keys.{same_or_not, first-is, has-index, has_first, row_has, row-has-not}
+use Rattle.board.proofs.points.Keys.{same_or_not, first-is, has-index, has_first, Searched}
 use Rattle.board.proofs.points.Table.{info-none, info-has, at-insert, insert-others, set-others, at-remove, remove-others, Sorted, EachPoint}
 
 -- ---- what holds at every key and its info
@@ -55,35 +55,31 @@ module _ (P : ℕ → ℕ → Type 0) where
 
 -- ---- the ways out of stored and dropped
 
-module _ (t : Points) (k i : ℕ) (fits : t.count ≤ length t.keys) (ei : i ≡ first_from (keys_of t) k) where
-  pub stored_there : (d : ℕ) → i < t.count → get_or t.keys i 0 ≡ k
-      → record { done = true; points = record { keys = t.keys; infos = set t.infos i d; count = t.count } } ≡ stored_in t k d
-  unfolding stored_in replaced
-  stored_there d l e = rw (row_has t.keys t.count k i fits ei l e, ei)
+module _ (t : Points) (k i : ℕ) where
+  module _ (s : Searched (keys_of t) k i true) where
+    pub stored_there : (d : ℕ) → record { done = true; points = record { keys = t.keys; infos = set t.infos i d; count = t.count } } ≡ stored_in t k d
+    unfolding stored_in replaced
+    stored_there d = rw (s.has, s.place)
 
-  pub dropped-there : (ks ds : List ℕ) → i < t.count → get_or t.keys i 0 ≡ k → ks ≡ remove_row t.count i t.keys
-      → ds ≡ remove_row t.count i t.infos
-      → record { done = true; points = record { keys = ks; infos = ds; count = t.count - 1 } } ≡ dropped_from t k
-  unfolding dropped_from
-  dropped-there ks ds l e ek ed = rw (row_has t.keys t.count k i fits ei l e, ek, ed, ei)
+    pub dropped-there : (ks ds : List ℕ) → ks ≡ remove_row t.count i t.keys → ds ≡ remove_row t.count i t.infos
+        → record { done = true; points = record { keys = ks; infos = ds; count = t.count - 1 } } ≡ dropped_from t k
+    unfolding dropped_from
+    dropped-there ks ds ek ed = rw (s.has, ek, ed, s.place)
 
-  module _ (asc : ascending_from 0 (keys_of t) ≡ true) (absent : i < t.count → get_or t.keys i 0 ≡ k → ⊥) where
-    none : has_key k (keys_of t) ≡ false
-    none = row-has-not t.keys t.count k i fits ei asc absent
-
+  module _ (s : Searched (keys_of t) k i false) where
     pub stored-no-room : (d : ℕ) → point_most ≤ t.count → record { done = false; points = t } ≡ stored_in t k d
     unfolding stored_in
-    stored-no-room d l = rw (none, le-ltb t.count point_most l)
+    stored-no-room d l = rw (s.has, le-ltb t.count point_most l)
 
     pub stored-new : (d : ℕ) (ks ds : List ℕ) → t.count < point_most → ks ≡ insert_row t.count i k t.keys
         → ds ≡ insert_row t.count i d t.infos
         → record { done = true; points = record { keys = ks; infos = ds; count = t.count + 1 } } ≡ stored_in t k d
     unfolding stored_in added
-    stored-new d ks ds l ek ed = rw (none, lt-ltb t.count point_most l, ek, ed, ei)
+    stored-new d ks ds l ek ed = rw (s.has, lt-ltb t.count point_most l, ek, ed, s.place)
 
     pub dropped-none : record { done = false; points = t } ≡ dropped_from t k
     unfolding dropped_from
-    dropped-none = rw none
+    dropped-none = rw s.has
 
 -- ---- a table after a point is stored or dropped
 

@@ -6,14 +6,13 @@ use mathlib.Core.Path.{◌≡◌, refl, sym, ap, ◌∙◌}
 use mathlib.Core.Logic.{⊎_elim}
 use mathlib.Core.Bool.{true, false, cond, true≢false}
 use mathlib.Core.List.{List, [], ◌∷◌}
-use lib.ListN.{length, take, get_or, set}
-use lib.Seq.{length-take-le, get_or-take}
+use lib.ListN.{length, get_or, set}
 use lib.Dec.{eqb}
 use borrow.Author.Tests.{eq-eqb, ne_eqb}
 use Rattle.board.specs.declared.points.Points.{Points}
 use Rattle.board.specs.Points.{point_most, ascending_from, has_key, first_from, insert_at, remove_at, info_at, keys_of}
 use Rattle.track.proofs.Tests.{refuted}
-use Rattle.board.proofs.points.Keys.{same_or_not, ascending-rest, ascending-low, first-is, has-head, has-tail, has-below, has_first, row_has, row-has-not}
+use Rattle.board.proofs.points.Keys.{same_or_not, ascending-rest, ascending-low, first-is, has-head, has-tail, has-below, has_first, Searched}
 
 -- ---- the info at a key
 
@@ -128,18 +127,12 @@ remove-others (suc i) j k (x ∷ ks) (y ∷ ds) e l h n =
 
 -- ---- the ways out of info_at
 
-module _ (keys infos : List ℕ) (n k i : ℕ) (fk : n ≤ length keys) (fd : n ≤ length infos) (asc : ascending_from 0 (take n keys) ≡ true)
-    (ei : i ≡ first_from (take n keys) k) where
-  pub info-found : i < n → get_or keys i 0 ≡ k → get_or infos i 0 ≡ info_at k (take n keys) (take n infos)
-  info-found l e =
-      let lens = length-take-le n keys fk ∙ sym (length-take-le n infos fd) in
-      sym
-      (info-has k (take n keys) (take n infos) asc lens (row_has keys n k i fk ei l e)
-      ∙ ap (λ (j : ℕ). get_or (take n infos) j 0) (sym ei)
-      ∙ get_or-take n infos i 0 l)
+module _ (ks ds : List ℕ) (k i : ℕ) where
+  pub info-found : ascending_from 0 ks ≡ true → length ks ≡ length ds → Searched ks k i true → get_or ds i 0 ≡ info_at k ks ds
+  info-found asc lens s = ap (λ (j : ℕ). get_or ds j 0) s.place ∙ sym (info-has k ks ds asc lens s.has)
 
-  pub info-absent : (i < n → get_or keys i 0 ≡ k → ⊥) → 0 ≡ info_at k (take n keys) (take n infos)
-  info-absent h = sym (info-none k (take n keys) (take n infos) (row-has-not keys n k i fk ei asc h))
+  pub info-absent : Searched ks k i false → 0 ≡ info_at k ks ds
+  info-absent s = sym (info-none k ks ds s.has)
 
 -- ---- a table
 

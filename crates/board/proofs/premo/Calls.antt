@@ -216,9 +216,9 @@ module _ (b : Board) (whole : Unbroken b) (i : ℕ) where
   unfolding says_of makes_of deed_of is_on act_of
   call-path (call.AddTrack track lo hi) n = kept-path (call.AddTrack track lo hi) n refl (added track lo hi)
   call-path (call.SetUp track c) n = set-up-path track c
-  call-path (call.SetPoint track p e w c g) n =
-      kept-path (call.SetPoint track p e w c g) n refl
-      (set-point-ways b (λ (o : Outcome). mode_of o.board i ≡ mode) (λ _. refl) track p e w c g (λ _ _ _. refl))
+  call-path (call.SetPoint track p) n =
+      kept-path (call.SetPoint track p) n refl
+      (set-point-ways b (λ (o : Outcome). mode_of o.board i ≡ mode) (λ _. refl) track p (λ _ _ _. refl))
   call-path (call.DropPoint track p) n =
       kept-path (call.DropPoint track p) n refl (drop-point-ways b (λ (o : Outcome). mode_of o.board i ≡ mode) (λ _. refl) track p (λ _ _. refl))
   call-path (call.Play track) n = mode-path n track PLAY

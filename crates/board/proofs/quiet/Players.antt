@@ -5,7 +5,7 @@ use mathlib.Core.Logic.{◌⊎◌, inl, inr}
 use mathlib.Core.Bool.{Bool, true, false, cond}
 use mathlib.Core.List.{List, [], ◌∷◌, ◌++◌}
 use native.Mathlib.Omega.{arith}
-use native.Mathlib.Nat.{add-zero, zero-add, add-suc, suc-add, div-one, zero-lt-suc, pow-suc}
+use native.Mathlib.Nat.{add-zero, zero-add, add-suc, suc-add, div-one, zero-lt-suc}
 use native.Mathlib.Numerals.{add-one}
 use lib.Dec.{eqb}
 use lib.ListN.{length, length-append}
@@ -44,19 +44,6 @@ bit-plays d t = go (eqb t.mode PLAYING) refl
     go : (b : Bool) → eqb t.mode PLAYING ≡ b → 0 < cond b d 0 → (t.mode ≡ PLAYING) × (0 < d)
     go true e h = (eqb-true t.mode PLAYING e, h)
     go false e h = absurd (omega arith)
-
-word_below : (present : ℕ) (ts : List Track) → playing_word present ts < 2 ^ length ts
-unfolding playing_word
-word_below present [] = omega arith
-word_below present (t ∷ ts) =
-    let s = bit-small (present % 2) t (omega arith) in
-    let h = word_below (present / 2) ts in
-    let e = pow-suc 2 (length ts) in
-    omega arith
-
--- the playing word of 16 tracks has 16 bits
-pub word_small : (present : ℕ) (ts : List Track) → length ts ≡ track_count → playing_word present ts < 65536
-word_small present ts l = rw l at (word_below present ts)
 
 players-from : (n present : ℕ) (ts : List Track) → members_from (length ts) n (playing_word present ts) ≡ players n present ts
 unfolding members_from playing_word players

@@ -1,12 +1,12 @@
 -- The laws of calls and replies as rows of numbers.
-use Rattle.std.specs.Prelude.{Option, Some, None}
+use Rattle.std.specs.Prelude.{Some, None}
 use mathlib.Core.Path.{◌≡◌, refl, sym, ap, ◌∙◌}
 use mathlib.Core.Bool.{Bool, true, false, cond}
 use mathlib.Core.List.{List, [], ◌∷◌, ◌++◌, append_assoc}
-use Prim.Native.Nat.{ℕ, zero, suc, ◌-◌, ◌^◌, ◌≤◌, ◌<◌, min}
+use Prim.Native.Nat.{ℕ, zero, suc, ◌-◌, ◌^◌, ◌<◌, min}
 use native.Mathlib.Nat.{zero-add}
 use native.Mathlib.Omega.{arith}
-use borrow.Author.Tests.{ne_eqb, eq-eqb, eqb-true, leb-true, leb-false}
+use borrow.Author.Tests.{eqb-true, leb-true, leb-false}
 use lib.Dec.{eqb, leb}
 use lib.IntN.{ℤ, pos, negsuc}
 use lib.ListN.{length, take, drop, replicate, length-append}
@@ -15,15 +15,14 @@ use lib.Signed.{mag}
 use mir.Syntax.{w64}
 use mir.Val.{hbits}
 use mir.Facts.{to_z-of_z}
-use Rattle.track.specs.declared.Track.{Track}
+use mir.Val.{of_z}
 use Rattle.track.specs.Rule.{cell_count, threshold_count}
-use Rattle.track.specs.Number.{natural_of, capped_of, on_some, value_of, coordinate_at}
+use Rattle.track.specs.Number.{capped_of, value_of, coordinate_at}
 use Rattle.track.specs.declared.Coordinate.{Coordinate}
-use Rattle.track.proofs.Numbers.{natural-in, natural-of, capped-in, coordinate-at, back}
+use Rattle.track.proofs.Numbers.{capped-in, coordinate-at, back}
 use Rattle.board.specs.Log.{write_at}
-use Rattle.board.specs.Row.{call_width, reply_width, call_from, call_of, plain_at, row_number, pairs_from, pairs_in, master_code, is_code, master_call, master_in, call_at, padded, track_numbers, point_numbers, cells_at, master_at, thresholds_at, events_at, rate_at}
-use Rattle.board.specs.Call.{TrackValues, track_values, point_values}
-use Rattle.board.specs.declared.points.Point.{Point}
+use Rattle.board.specs.Row.{call_width, reply_width, call_of, plain_at, row_number, pairs_from, pairs_in, master_code, is_code, master_call, master_in, call_at, padded, track_numbers, cells_at, master_at, thresholds_at, events_at, rate_at}
+use Rattle.board.specs.Call.{TrackValues}
 use Rattle.board.specs.declared.call.Call.TheVariants as call
 use Rattle.board.specs.declared.call.Pairs.{Pairs}
 use Rattle.board.specs.declared.call.Pairs.TheVariants as pairs
@@ -31,75 +30,18 @@ use Rattle.board.proofs.log.Words.{write-write}
 
 -- ---- the call of a row
 
--- above 22 there is no call
-no_code : (n : ℕ) (a b c d e f : ℤ) → 22 < n → call_from n a b c d e f ≡ None
-no_code n a b c d e f h =
-    simp (
-      ne_eqb n 1 (omega arith),
-      ne_eqb n 2 (omega arith),
-      ne_eqb n 3 (omega arith),
-      ne_eqb n 4 (omega arith),
-      ne_eqb n 5 (omega arith),
-      ne_eqb n 6 (omega arith),
-      ne_eqb n 7 (omega arith),
-      ne_eqb n 8 (omega arith),
-      ne_eqb n 9 (omega arith),
-      ne_eqb n 10 (omega arith),
-      ne_eqb n 11 (omega arith),
-      ne_eqb n 12 (omega arith),
-      ne_eqb n 13 (omega arith),
-      ne_eqb n 14 (omega arith),
-      ne_eqb n 15 (omega arith),
-      ne_eqb n 16 (omega arith),
-      ne_eqb n 17 (omega arith),
-      ne_eqb n 18 (omega arith),
-      ne_eqb n 19 (omega arith),
-      ne_eqb n 20 (omega arith),
-      ne_eqb n 22 (omega arith),
-    )
-
--- a number outside 1 to 22 is the code of no call
-pub code_out : (z : ℤ) (a b c d e f : ℤ) → natural_of z 1 22 ≡ None → None ≡ call_of z a b c d e f
-code_out (negsuc k) a b c d e f h = refl
-code_out (pos k) a b c d e f h = go (leb k 22) (leb 1 k) refl refl
-  where
-    go : (s t : Bool) → leb k 22 ≡ s → leb 1 k ≡ t → None ≡ call_from k a b c d e f
-    go false t p q = sym (no_code k a b c d e f (leb-false _ _ p))
-    go true false p q = let z : 0 ≡ k = omega (arith, leb-false 1 k q) in ap (λ (n : ℕ). call_from n a b c d e f) z
-    go true true p q =
-        ap (λ (n : Option ℕ). on_some n (λ j. call_from j a b c d e f) None)
-        (sym h ∙ natural-of k 1 22 (leb-true _ _ q) (leb-true _ _ p))
-
--- and one within is that code
-pub code_in : (z : ℤ) {n : ℕ} (a b c d e f : ℤ) → natural_of z 1 22 ≡ Some n → call_from n a b c d e f ≡ call_of z a b c d e f
-code_in z a b c d e f h = sym (ap (λ (y : ℤ). call_of y a b c d e f) (natural-in z 1 22 h).0)
-
--- the codes 1 to k, one after the other, are not n
-abbrev pub NoneTo : ℕ → ℕ → Type 0
-NoneTo n zero = Unit {0}
-NoneTo n (suc k) = NoneTo n k × (n ≡ suc k → ⊥)
-
--- a code past them
-pub past : (n k : ℕ) → 1 ≤ n → NoneTo n k → k < n
-past n zero h p = h
-past n (suc k) h p = omega (arith, past n k h p.0, p.1)
-
--- the code of a master call, and any other
-code-yes : (z : ℤ) {n : ℕ} → natural_of z master_code master_code ≡ Some n → is_code master_code z ≡ true
-code-yes z {n} e =
-    let r = natural-in z master_code master_code e in
-    ap (is_code master_code) r.0 ∙ eq-eqb n master_code (omega (arith, r.1, r.2))
-
-code-no : (z : ℤ) → natural_of z master_code master_code ≡ None → is_code master_code z ≡ false
-code-no (negsuc n) e = refl
-code-no (pos n) e = go (eqb n master_code) refl
+-- a number that is not 21 is not the code of a master call
+code-no : (z : ℤ) → (of_z w64 z ≡ master_code → ⊥) → is_code master_code z ≡ false
+code-no (negsuc n) h = refl
+code-no (pos n) h = go (eqb n master_code) refl
   where
     go : (t : Bool) → eqb n master_code ≡ t → eqb n master_code ≡ false
     go false p = p
-    go true p =
-        let q = eqb-true n master_code p in
-        let f : None ≡ Some n = sym e ∙ natural-of n master_code master_code (omega arith) (omega arith) in
-        cc
+    go true p = absurd (h (ap (λ (k : ℕ). of_z w64 (pos k)) (eqb-true n master_code p)))
+
+-- then the row is a call of six numbers
+pub row_plain : (zs : List ℤ) → (of_z w64 (row_number zs 0) ≡ master_code → ⊥) → plain_at zs ≡ call_at zs
+row_plain zs h = sym (ap (λ (t : Bool). cond t (master_in zs) (plain_at zs)) (code-no (row_number zs 0) h))
 
 -- five pairs or more are more than four
 pub pairs-more : (n : ℕ) (a b c d e f g h i j : ℤ) → 4 < n → pairs.More a b c d e f g h i j ≡ pairs_from n a b c d e f g h i j
@@ -132,30 +74,20 @@ module _ (zs : List ℤ) where
   counted : {n : ℕ} → Kept zs 3 → capped_of (back (row_number zs 3)) 5 ≡ Some n → (j : ℕ) × (row_number zs 3 ≡ pos j) × (n ≡ min j 5)
   counted h e = capped-in _ 5 (ap (λ (z : ℤ). capped_of z 5) (sym (kept 3 h)) ∙ e)
 
-  pub master-none : Kept zs 3 → capped_of (back (row_number zs 3)) 5 ≡ None → None ≡ master_in zs
+  pub master_none : Kept zs 3 → capped_of (back (row_number zs 3)) 5 ≡ None → None ≡ master_in zs
   unfolding capped_of
-  master-none h e = go (row_number zs 3) (ap (λ (z : ℤ). capped_of z 5) (sym (kept 3 h)) ∙ e)
+  master_none h e = go (row_number zs 3) (ap (λ (z : ℤ). capped_of z 5) (sym (kept 3 h)) ∙ e)
     where
       go : (z : ℤ) → capped_of z 5 ≡ None → None ≡ master_call (row_number zs 1) (row_number zs 2) z (λ n. pairs_in n zs)
       go (pos n) p = cc
       go (negsuc n) p = refl
 
-  pub master-read : {n : ℕ} {ps : Pairs} → Kept zs 1 → Kept zs 2 → Kept zs 3 → capped_of (back (row_number zs 3)) 5 ≡ Some n → ps ≡ pairs_in n zs →
+  pub master_read : {n : ℕ} {ps : Pairs} → Kept zs 1 → Kept zs 2 → Kept zs 3 → capped_of (back (row_number zs 3)) 5 ≡ Some n → ps ≡ pairs_in n zs →
       Some (call.Master (back (row_number zs 1)) (back (row_number zs 2)) ps) ≡ master_in zs
-  master-read {n} a b h e p =
+  master_read {n} a b h e p =
       let c = counted h e in
       (λ i. Some (call.Master (kept 1 a i) (kept 2 b i) ((p ∙ ap (λ (m : ℕ). pairs_in m zs) c.2 ∙ pairs-five c.0 zs) i)))
       ∙ ap (λ (z : ℤ). master_call (row_number zs 1) (row_number zs 2) z (λ m. pairs_in m zs)) (sym c.1)
-
-  -- a row is a master call if its code is 21, else a call of six numbers
-  is-code : Kept zs 0 → {n : Option ℕ} → natural_of (back (row_number zs 0)) master_code master_code ≡ n → natural_of (row_number zs 0) master_code master_code ≡ n
-  is-code h e = ap (λ (z : ℤ). natural_of z master_code master_code) (sym (kept 0 h)) ∙ e
-
-  pub row-master : {n : ℕ} → Kept zs 0 → natural_of (back (row_number zs 0)) master_code master_code ≡ Some n → master_in zs ≡ call_at zs
-  row-master h e = sym (ap (λ (t : Bool). cond t (master_in zs) (plain_at zs)) (code-yes _ (is-code h e)))
-
-  pub row_plain : Kept zs 0 → natural_of (back (row_number zs 0)) master_code master_code ≡ None → plain_at zs ≡ call_at zs
-  row_plain h e = sym (ap (λ (t : Bool). cond t (master_in zs) (plain_at zs)) (code-no _ (is-code h e)))
 
 -- the 14 numbers of a row are those that its call is read from
 module _ (zs : List ℤ) where
@@ -173,41 +105,9 @@ module _ (zs : List ℤ) where
 
 -- ---- the row of a reply
 
--- the numbers of a track and of a point have their coordinates
-pub track-coordinates : (t : Track) →
-    t.min.0
-    ∷ t.max.0
-    ∷ t.start.0
-    ∷ t.end.0
-    ∷ t.position.0
-    ∷ t.passes.0
-    ∷ t.loops
-    ∷ t.mode
-    ∷ t.direction
-    ∷ t.repeat
-    ∷ t.due
-    ∷ t.actions ++ (t.master ∷ t.band ∷ t.thresholds ++ (t.events ++ (t.steps ∷ t.ticks ∷ t.remainder ∷ [])))
-    ≡ track_numbers (track_values t)
-track-coordinates t =
-    λ i. at t.min i
-    ∷ at t.max i
-    ∷ at t.start i
-    ∷ at t.end i
-    ∷ at t.position i
-    ∷ t.passes.0
-    ∷ t.loops
-    ∷ t.mode
-    ∷ t.direction
-    ∷ t.repeat
-    ∷ t.due
-    ∷ t.actions ++ (t.master ∷ t.band ∷ t.thresholds ++ (t.events ++ (t.steps ∷ t.ticks ∷ t.remainder ∷ [])))
-  where
-    at : (c : Coordinate) → c.0 ≡ (coordinate_at (value_of c)).0
-    at c = ap (λ (d : Coordinate). d.0) (sym (coordinate-at c))
-
-pub point-coordinate : (p : Point) →
-    p.track ∷ p.position.0 ∷ p.event ∷ p.wait ∷ p.command ∷ p.target ∷ [] ≡ point_numbers (point_values p)
-point-coordinate p = λ i. p.track ∷ (sym (coordinate-at p.position) i).0 ∷ p.event ∷ p.wait ∷ p.command ∷ p.target ∷ []
+-- a number of a coordinate is the coordinate's
+pub coordinate_back : (c : Coordinate) → (coordinate_at (value_of c)).0 ≡ c.0
+coordinate_back c = ap (λ (d : Coordinate). d.0) (coordinate-at c)
 
 -- the row of a track: its cells written behind its head, its master and band behind these, then its thresholds, their events and its rate
 pub track-numbers : (t : TrackValues) → length t.actions ≡ cell_count → length t.thresholds ≡ threshold_count → length t.events ≡ threshold_count →

@@ -11,8 +11,8 @@ use Rattle.track.specs.Rule.{cell_count, threshold_count}
 use Rattle.board.specs.declared.points.Point.{Point}
 use Rattle.board.specs.Call.{TrackValues, PointValues, track_values, point_values}
 use Rattle.board.specs.Call.{Reply, accepted, refused, done, log_full, clock_ended, clock_is, track_is, point_is, count_is}
-use Rattle.board.specs.Row.{padded, cells_at, numbers_of}
-use Rattle.board.proofs.row.Encoding.{track-coordinates, point-coordinate}
+use Rattle.board.specs.Row.{cells_at, numbers_of}
+use Rattle.board.proofs.row.Encoding.{coordinate_back}
 
 -- what a row's numbers say behind a track's cells
 abbrev behind_cells : List ℕ → List ℕ
@@ -97,8 +97,12 @@ behind cells ths evs rate rest m k =
 track-back : (t : Track) → Whole t → reply_in (numbers_of (track_is (track_values t))) ≡ track_is (track_values t)
 unfolding reply_in
 track-back t h =
-    ap (λ (ns : List ℕ). reply_in (padded (6 ∷ ns))) (sym (track-coordinates t))
-    ∙ rw (
+    rw (
+      coordinate_back t.min,
+      coordinate_back t.max,
+      coordinate_back t.start,
+      coordinate_back t.end,
+      coordinate_back t.position,
       behind t.actions t.thresholds t.events (t.steps ∷ t.ticks ∷ t.remainder ∷ []) _ t.master t.band,
       take_at t.actions _ cell_count h.0,
       drop_at t.actions _ cell_count h.0,
@@ -110,7 +114,7 @@ track-back t h =
 
 point-back : (p : Point) → reply_in (numbers_of (point_is (point_values p))) ≡ point_is (point_values p)
 unfolding reply_in
-point-back p = ap (λ (ns : List ℕ). reply_in (padded (7 ∷ ns))) (sym (point-coordinate p))
+point-back p = rw (coordinate_back p.position) refl
 
 -- a reply's row says that reply
 pub reply-back : (a : Reply) → Told a → reply_in (numbers_of a) ≡ a

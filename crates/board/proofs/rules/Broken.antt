@@ -1,7 +1,7 @@
 -- What makes a board broken: the tests and the rules say the same.
 use Prim.Native.Nat.{ℕ, zero, suc, ◌+◌, ◌/◌, ◌%◌, ◌^◌, ◌≤◌, ◌<◌, suc-le-suc}
 use mathlib.Core.Path.{◌≡◌, refl, sym, ◌∙◌, ap, subst}
-use mathlib.Core.Bool.{Bool, true, false, cond, not, ◌&&◌, ◌||◌}
+use mathlib.Core.Bool.{Bool, true, false, cond, not, ◌&&◌, ◌||◌, and-false}
 use mathlib.Core.List.{List, [], ◌∷◌}
 use native.Mathlib.Nat.{le_of_suc-le-suc, not-suc-le-zero, zero-lt-suc, pow-suc, div-div-eq-div-mul, mul_comm}
 use native.Mathlib.Omega.{arith}
@@ -15,11 +15,11 @@ use Rattle.track.specs.Rule.{clock_end, Sound, sound_test, event_most}
 use Rattle.track.proofs.Tests.{both, both_is}
 use Rattle.track.proofs.Checks.{sound-of, sound-is}
 use Rattle.track.specs.Follow.{follows, thresholds_of, banded, Follower, follower_test}
-use Rattle.track.proofs.Follows.{SameFollower, follower-of, follower-is, follower-same, follower-later, follower-banded, banded-sound}
+use Rattle.track.proofs.Follows.{SameFollower, follower-of, follower-is, follower-same, follower-later, follower-banded, follower-sound}
 use Rattle.board.specs.declared.Board.{Board}
 use Rattle.board.specs.declared.points.Point.{Point}
 use Rattle.board.specs.Points.{point_most, ascending_from, point_of, track_count}
-use Rattle.board.specs.Board.{track_at, is_present, master_test, PointRule, Unbroken, track_test, tracks_test, place_test, allowed_test, points_test, shape_test, unbroken_parts, unbroken_test}
+use Rattle.board.specs.Board.{track_at, is_present, master_test, PointRule, Unbroken, track_test, tracks_test, place_test, allowed_test, points_test, shape_test, unbroken_parts, unbroken_test, board_of, rows_whole}
 
 -- ---- presence
 
@@ -94,7 +94,7 @@ pub kept-banded : {present i : ℕ} {t : Track} {clock : Ticks} (k : ℕ) → 0 
     Kept present i (banded t k) clock
 unfolding master_test
 kept-banded k c l h =
-    record { sound = banded-sound k h.sound; follower = follower-banded k c l h.follower; master = h.master }
+    record { sound = follower-sound h.sound; follower = follower-banded k c l h.follower; master = h.master }
 
 -- the tracks that the word says are present keep the rules, where the test holds; the first of them has the number n
 pub tracks-at : (ts : List Track) (present word n : ℕ) (clock : Ticks) → tracks_test present word n ts clock ≡ true →
@@ -286,3 +286,9 @@ module _ (b : Board) where
       let y = get_or-take n b.points.infos j 0 m in
       rw (x, y) (u.points j m)))
       (shape_is b.present b.tracks b.points.keys b.points.infos s.tracks s.present s.keys s.infos))))
+
+-- ---- parts with rows of another length are a broken board's
+pub parts-broken : (ts : List Track) (present : ℕ) (keys infos : List ℕ) (n clock held : ℕ) → rows_whole keys infos ≡ false
+    → unbroken_test (board_of ts present keys infos n clock held) ≡ false
+unfolding unbroken_parts shape_test
+parts-broken ts present keys infos n clock held h = simp (h, and-false)

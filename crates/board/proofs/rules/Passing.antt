@@ -1,7 +1,8 @@
 -- What the rules' definitions come to on each way through the functions that test them.
-use Prim.Native.Nat.{ℕ, ◌+◌, ◌/◌, ◌%◌, ◌≤◌, ◌<◌}
+use Prim.Native.Nat.{ℕ, suc, ◌+◌, ◌/◌, ◌%◌, ◌≤◌, ◌<◌}
 use mathlib.Core.Path.{◌≡◌, refl, sym, ◌∙◌, ap}
-use mathlib.Core.Bool.{Bool, true, false, cond, not, ◌&&◌, ◌||◌, and-false, and-true}
+use mathlib.Core.Bool.{Bool, true, false, cond, not, ◌&&◌, ◌||◌, and-false, and-true, false≢true}
+use mathlib.Core.Logic.{⊎_elim}
 use mathlib.Core.List.{List, [], ◌∷◌, map}
 use native.Mathlib.Numerals.{add-one}
 use native.Mathlib.Omega.{arith}
@@ -10,11 +11,12 @@ use lib.ListN.{length, get_or, take, drop, drop_of_length-le, length-map}
 use lib.Seq.{drop-cons, length-take-le, get_or-take}
 use borrow.Author.Tests.{le-leb, lt-leb, eq-eqb, ne_eqb, eqb-true}
 use Rattle.track.specs.declared.Track.{Track}
+use Rattle.track.proofs.Tests.{both}
+use Rattle.board.proofs.points.Keys.{lt-or-ge}
 use Rattle.track.specs.declared.Ticks.{Ticks}
 use Rattle.track.specs.Rule.{clock_end, event_most}
-use Rattle.board.specs.declared.points.Point.{Point}
 use Rattle.board.specs.Points.{point_most, stride, point_of, event_of, wait_of, command_of, target_of, key_end, info_end}
-use Rattle.board.specs.Board.{no_track, track_at, track_test, tracks_test, place_test, allowed_test, points_test, shape_test, unbroken_parts}
+use Rattle.board.specs.Board.{no_track, track_at, track_test, tracks_test, place_test, allowed_test, point_test, points_test, shape_test, unbroken_parts}
 use Rattle.board.proofs.rules.Broken.{present-not}
 
 -- the length of an array of structs, from what its row tells
@@ -60,56 +62,48 @@ module _ (present word : ℕ) (ts : List Track) (i : ℕ) (clock : Ticks) where
 
 -- ---- the points
 
-module _ (present : ℕ) (ts : List Track) (lo k d : ℕ) (ks ds : List ℕ) where
-  abbrev All : Bool
-  All = points_test present ts lo (k ∷ ks) (d ∷ ds)
-
-  pub points-low : k < lo → false ≡ All
-  unfolding points_test
-  points-low h = simp (lt-leb lo k h)
-
-  misplaced : place_test present (track_at ts (k / stride)) (point_of k d) ≡ false → false ≡ All
-  unfolding points_test point_of
-  misplaced h = simp (h, and-false)
-
-  not-allowed : allowed_test present (point_of k d) ≡ false → false ≡ All
-  unfolding points_test point_of
-  not-allowed h = simp (h, and-false)
-
+module _ (present : ℕ) (ts : List Track) (k d : ℕ) where
   -- a key past the sixteenth track, or an info past the sixteenth target, breaks the rules
-  pub points-track : key_end ≤ k → false ≡ All
+  pub point-track : key_end ≤ k → false ≡ point_test present ts k d
   unfolding place_test point_of
-  points-track h =
-      misplaced (simp (← present-not present (k / stride) (omega arith)))
+  point-track h = simp (← present-not present (k / stride) (omega arith))
 
-  pub points-target : info_end ≤ d → false ≡ All
+  pub point-target : info_end ≤ d → false ≡ point_test present ts k d
   unfolding allowed_test point_of
-  points-target h =
-      not-allowed
-      (simp (← present-not present (target_of d) (omega arith), ne_eqb (target_of d) 0 (omega arith)) (either (eqb (command_of d) 0)))
+  point-target h =
+      simp (← present-not present (target_of d) (omega arith), ne_eqb (target_of d) 0 (omega arith), either (eqb (command_of d) 0), and-false)
     where
       either : (b : Bool) →
           (leb 1 (event_of d) && (leb (event_of d) event_most && (leb (wait_of d) 1 && (leb (command_of d) 4 && cond b false false)))) ≡ false
       either true = simp and-false
       either false = simp and-false
 
-  module _ {p : Point} (e : p ≡ point_of k d) {b : Bool} (eb : b ≡ place_test present (track_at ts (k / stride)) p) where
-    pub points-place : b ≡ false → false ≡ All
-    points-place h = misplaced (ap (place_test present (track_at ts (k / stride))) (sym e) ∙ sym eb ∙ h)
+  pub point-key : point_test present ts k d ≡ true → k < key_end
+  unfolding place_test point_of
+  point-key h =
+      ⊎_elim (λ l. l) (λ (l : key_end ≤ k). absurd (false≢true (point-track l ∙ h))) (lt-or-ge k key_end)
 
-    module _ {c : Bool} (ec : c ≡ allowed_test present p) where
-      pub points-allowed : c ≡ false → false ≡ All
-      points-allowed h = not-allowed (ap (allowed_test present) (sym e) ∙ sym ec ∙ h)
+  module _ (lo : ℕ) (ks ds : List ℕ) where
+    abbrev All : Bool
+    All = points_test present ts lo (k ∷ ks) (d ∷ ds)
 
-      pub points-next : lo ≤ k → b ≡ true → c ≡ true → points_test present ts (k + 1) ks ds ≡ All
-      unfolding points_test point_of
-      points-next l h g =
-          simp (
-            le-leb lo k l,
-            ap (place_test present (track_at ts (k / stride))) (sym e) ∙ sym eb ∙ h,
-            ap (allowed_test present) (sym e) ∙ sym ec ∙ g,
-            add-one,
-          )
+    pub points-low : k < lo → false ≡ All
+    unfolding points_test
+    points-low h = simp (lt-leb lo k h)
+
+    pub points-bad : point_test present ts k d ≡ false → false ≡ All
+    unfolding points_test
+    points-bad h = go (place_test present (track_at ts (point_of k d).track) (point_of k d)) (allowed_test present (point_of k d)) h
+      where
+        go : (p a : Bool) → (p && a) ≡ false → false ≡ (leb lo k && (p && (a && points_test present ts (suc k) ks ds)))
+        go true a e = simp (e, and-false)
+        go false a e = simp and-false
+
+    pub points-next : lo ≤ k → point_test present ts k d ≡ true → points_test present ts (k + 1) ks ds ≡ All
+    unfolding points_test
+    points-next l h =
+        let b = both (place_test present (track_at ts (point_of k d).track) (point_of k d)) (allowed_test present (point_of k d)) h in
+        simp (le-leb lo k l, b.0, b.1, add-one)
 
 pub points-end : (present : ℕ) (ts : List Track) (lo : ℕ) (ds : List ℕ) → true ≡ points_test present ts lo [] ds
 unfolding points_test
@@ -117,20 +111,27 @@ points-end present ts lo ds = refl
 
 -- ---- the board by its parts
 
-module _ (present : ℕ) (ts : List Track) (clock : Ticks) (keys infos : List ℕ) (n : ℕ) where
-  pub parts-clock : clock_end < clock.0 → false ≡ unbroken_parts present ts clock keys infos n
-  unfolding unbroken_parts
-  parts-clock h = simp (lt-leb _ _ h)
+-- the value of `a && b`, where b is asked behind a, and where it is not
+pub asked : {v a b : Bool} → a ≡ true → v ≡ b → v ≡ (a && b)
+asked {b = b} ea ev = ev ∙ sym (ap (λ (x : Bool). x && b) ea)
 
-  pub parts-count : point_most < n → false ≡ unbroken_parts present ts clock keys infos n
-  unfolding unbroken_parts
-  parts-count h = simp (lt-leb _ _ h, and-false)
+pub not-asked : {v a : Bool} (b : Bool) → a ≡ false → v ≡ a → v ≡ (a && b)
+not-asked b ea ev = ev ∙ ea ∙ sym (ap (λ (x : Bool). x && b) ea)
 
-  pub parts-tracks : {b : Bool} → b ≡ tracks_test present present 0 ts clock → b ≡ false → false ≡ unbroken_parts present ts clock keys infos n
-  unfolding unbroken_parts
-  parts-tracks e h = simp (← e, h, and-false)
-
-  pub parts-points : clock.0 ≤ clock_end → n ≤ point_most → {b r : Bool} → b ≡ tracks_test present present 0 ts clock → b ≡ true →
-      r ≡ points_test present ts 0 (take n keys) (take n infos) → shape_test present ts keys infos ≡ true → r ≡ unbroken_parts present ts clock keys infos n
-  unfolding unbroken_parts
-  parts-points c l e h q s = q ∙ simp (le-leb _ _ c, le-leb _ _ l, ← e, h, s, and-true)
+-- each part asked behind those before it
+pub parts-kept : (present : ℕ) (ts : List Track) (clock : Ticks) (keys infos : List ℕ) (n : ℕ) {u v w : Bool}
+    → u ≡ (leb clock.0 clock_end && leb n point_most) → v ≡ (u && tracks_test present present 0 ts clock)
+    → w ≡ (v && points_test present ts 0 (take n keys) (take n infos)) → (v ≡ true → shape_test present ts keys infos ≡ true)
+    → w ≡ unbroken_parts present ts clock keys infos n
+unfolding unbroken_parts
+parts-kept present ts clock keys infos n eu ev ew s =
+    ew
+    ∙ rw (ev, eu)
+    (nested (leb clock.0 clock_end) (leb n point_most) (tracks_test present present 0 ts clock) (points_test present ts 0 (take n keys) (take n infos))
+    (shape_test present ts keys infos) (λ h. s (rw (ev, eu) h)))
+  where
+    nested : (a b c d s : Bool) → (((a && b) && c) ≡ true → s ≡ true) → (((a && b) && c) && d) ≡ (a && (b && (c && (d && s))))
+    nested true true true d s h = sym (and-true d) ∙ ap (λ (x : Bool). d && x) (sym (h refl))
+    nested true true false d s h = refl
+    nested true false c d s h = refl
+    nested false b c d s h = refl

@@ -11,9 +11,6 @@ use lib.ListN.{get_or, length, set}
 use lib.Seq.{length-take-le, get_or-take}
 use lib.IntN.{ℤ}
 use lib.Signed.{le_z}
-use mir.Syntax.{w64}
-use mir.Val.{SFits}
-use mir.Facts.{to_z-of_z}
 use borrow.Author.Tests.{eqb-true, eq-eqb, ne_eqb, leb-true, ltb-true, le-leb, lt-ltb}
 use Rattle.track.specs.Number.{natural_of, on_some, within, coordinate_of, value_of, clamped_of}
 use Rattle.board.specs.Board.{is_present, Unbroken, PointRule, track_at, allowed_test, place_test}
@@ -24,12 +21,13 @@ use Rattle.board.specs.Points.{Stored, stored_as}
 use Rattle.board.specs.declared.points.Points.{Points}
 use Rattle.board.specs.Setup.{Outcome}
 use Rattle.track.specs.Rule.{coordinate_last, event_most}
-use Rattle.track.proofs.Numbers.{between-clamped, clamped-most, natural-in, within_in, back}
+use Rattle.track.proofs.Numbers.{between-clamped, clamped-most, natural-in, within_in}
 use Rattle.track.proofs.Tests.{both, both_is, same_tests}
 use Rattle.board.specs.Points.{stride, keys_of, infos_of, info_at, point_of, count_of, between, command_of, target_of, key_end, info_end}
 use Rattle.board.specs.Query.{in_range, point_read}
 use Rattle.board.specs.Setup.{described_by, allowed_only, point_with, accepted, refused, board_with, put_points}
 use Rattle.board.specs.declared.Board.{Board}
+use Rattle.board.specs.declared.call.PointNumbers.{PointNumbers}
 use Rattle.board.proofs.rules.Broken.{present-small, point-of}
 use Rattle.board.proofs.points.Table.{info-entry}
 use Rattle.board.proofs.rules.Present.{target_below}
@@ -68,16 +66,16 @@ module _ (P : Point → Type 0) where
       go false e = tt
 
 -- a point that is described for a present track keeps the rules of a point
-pub described-rule : (present i : ℕ) (ts : List Track) (position event wait command target : ℤ) {p : Point} → is_present present i ≡ true →
-    described_by present i (track_at ts i) position event wait command target ≡ Some p → PointRule present ts p
+pub described-rule : (present i : ℕ) (ts : List Track) (given : PointNumbers) {p : Point} → is_present present i ≡ true →
+    described_by present i (track_at ts i) given ≡ Some p → PointRule present ts p
 unfolding described_by Good? place_test
-described-rule present i ts position event wait command target h e =
+described-rule present i ts given h e =
     subst (λ (r : Option Point). Good? r (PointRule present ts)) e
-    (good-place (PointRule present ts) (track_at ts i).min.0 (track_at ts i).max.0 (coordinate_of position) _
-    (λ l low high. good-natural (PointRule present ts) event 1 event_most _
-    (λ ev _ _. good-natural (PointRule present ts) wait 0 1 _
-    (λ w _ _. good-natural (PointRule present ts) command 0 4 _
-    (λ c _ _. good-natural (PointRule present ts) target 0 15 _
+    (good-place (PointRule present ts) (track_at ts i).min.0 (track_at ts i).max.0 (coordinate_of given.position) _
+    (λ l low high. good-natural (PointRule present ts) given.event 1 event_most _
+    (λ ev _ _. good-natural (PointRule present ts) given.wait 0 1 _
+    (λ w _ _. good-natural (PointRule present ts) given.command 0 4 _
+    (λ c _ _. good-natural (PointRule present ts) given.target 0 15 _
     (λ g _ _. good-allowed (PointRule present ts) present (point_with i l ev w c g)
     (λ d. point-of present ts (point_with i l ev w c g) (both_is h (both_is (le-leb _ _ low) (le-leb _ _ high))) d)))))))
 
@@ -179,11 +177,3 @@ module _ (b : Board) (refusal : ℕ) {o : Option Points} {x : Stored} (e : store
 
   pub points-put : {t : Points} → o ≡ Some t → accepted (board_with b b.tracks b.present t b.held) ≡ put_points b refusal x
   points-put h = ap (put_points b refusal) (ap (stored_as b.points) (sym h) ∙ e)
-
--- what a caller learns of `describe` at the numbers that it passed on, which the code reads back from their bits
-pub described-told : (present i : ℕ) (owner : Track) {position event wait command target : ℤ} {r x : Option Point} → SFits w64 position → SFits w64 event →
-    SFits w64 wait → SFits w64 command → SFits w64 target →
-    r ≡ described_by present i owner (back position) (back event) (back wait) (back command) (back target) → r ≡ x →
-    described_by present i owner position event wait command target ≡ x
-described-told present i owner fp fe fw fc ft e q =
-    sym (λ j. described_by present i owner (to_z-of_z fp j) (to_z-of_z fe j) (to_z-of_z fw j) (to_z-of_z fc j) (to_z-of_z ft j)) ∙ sym e ∙ q

@@ -17,8 +17,9 @@ use Rattle.track.specs.Rule.{Sound, new_track}
 use Rattle.track.specs.Setup.{changed_by}
 use Rattle.track.specs.Follow.{Follower, following}
 use Rattle.track.proofs.Setups.{changed-keeps, new-valid, new-follower}
-use Rattle.track.proofs.Follows.{SameFollower, follower-same, following-sound}
+use Rattle.track.proofs.Follows.{SameFollower, follower-same, follower-sound}
 use Rattle.board.specs.declared.Board.{Board}
+use Rattle.board.specs.declared.call.PointNumbers.{PointNumbers}
 use Rattle.board.specs.declared.points.Point.{Point}
 use Rattle.board.specs.declared.points.Points.{Points}
 use Rattle.board.specs.Setup.{Outcome}
@@ -212,9 +213,9 @@ module _ (b : Board) (w : Unbroken b) where
       (λ h. absurd (true≢false (sym h ∙ absent))))
 
   -- no point that is set breaks a board
-  pub set-point-whole : (track position event wait command target : ℤ) → Unbroken (set_point b track position event wait command target).board
-  set-point-whole track position event wait command target =
-      set-point-ways b (λ (o : Outcome). Unbroken o.board) (λ n. w) track position event wait command target
+  pub set-point-whole : (track : ℤ) (given : PointNumbers) → Unbroken (set_point b track given).board
+  set-point-whole track given =
+      set-point-ways b (λ (o : Outcome). Unbroken o.board) (λ n. w) track given
       (λ p r _.
       let v = (w.tracks p.track r.track).valid.ordered in
       let back = point-back p (omega (arith, r.high)) (omega (arith, r.event)) r.wait r.command in
@@ -237,7 +238,7 @@ module _ (b : Board) (w : Unbroken b) where
       let es = row_of (events_in zs) in
       let t = track_at b.tracks i in
       placed i (following t (master_named m zs) xs es) b.present (present-small b.present i here) w.shape.present
-      (following-sound (master_named m zs) xs es (w.tracks i here))
+      (follower-sound (w.tracks i here))
       (record {
         thresholds = refl;
         events = refl;

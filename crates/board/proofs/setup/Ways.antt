@@ -25,6 +25,7 @@ use Rattle.track.specs.Setup.{settled, permits, start_set, end_set, loops_set, r
 use Rattle.track.proofs.Tests.{cond_cases, both}
 use Rattle.track.proofs.Numbers.{natural-in, value-coordinate}
 use Rattle.board.specs.declared.Board.{Board}
+use Rattle.board.specs.declared.call.PointNumbers.{PointNumbers}
 use Rattle.board.specs.declared.points.Point.{Point}
 use Rattle.board.specs.Points.{Stored}
 use Rattle.board.specs.Setup.{Outcome}
@@ -85,17 +86,17 @@ module _ (b : Board) (P : Outcome → Type 0) (declines : (e : Refusal) → P (r
       (λ _. declines refusal.Value)) (declines refusal.Value)) (declines refusal.Value))) (declines refusal.Track))
 
   -- a point is refused, or stored with every rule kept
-  pub set-point-ways : (track position event wait command target : ℤ) →
+  pub set-point-ways : (track : ℤ) (given : PointNumbers) →
       ((p : Point) → PointRule b.present b.tracks p → (stored_in b.points (key_of p) (info_of p)).done ≡ true →
       P (accepted (board_with b b.tracks b.present (stored_in b.points (key_of p) (info_of p)).points b.held))) →
-      P (set_point b track position event wait command target)
+      P (set_point b track given)
   unfolding set_point
-  set-point-ways track position event wait command target does =
+  set-point-ways track given does =
       on-board
       (on-track track _
       (λ i present. cond_cases P (settled (track_at b.tracks i).mode)
-      (λ _. go (described_by b.present i (track_at b.tracks i) position event wait command target)
-      (λ p e. described-rule b.present i b.tracks position event wait command target present e)) (λ _. declines refusal.Mode)))
+      (λ _. go (described_by b.present i (track_at b.tracks i) given)
+      (λ p e. described-rule b.present i b.tracks given present e)) (λ _. declines refusal.Mode)))
     where
       go : (d : Option Point) → ((p : Point) → d ≡ Some p → PointRule b.present b.tracks p) → P (on_described b d)
       go (Some p) rule = on-points refusal.Full (stored_in b.points (key_of p) (info_of p)) (does p (rule p refl))

@@ -1,12 +1,10 @@
--- The laws of a walk over a word's members, lowest first, that clears them by `word -= 1 << t`.
+-- The laws of the walk over a word's members, lowest first.
 use Prim.Native.Nat.{ℕ, zero, suc, ◌+◌, ◌-◌, ◌*◌, ◌/◌, ◌%◌, ◌^◌, ◌≤◌, ◌<◌, suc-le-suc}
 use mathlib.Core.Path.{◌≡◌, refl, sym, ap, subst, ◌∙◌}
 use mathlib.Core.List.{List, [], ◌∷◌}
 use native.Mathlib.Omega.{arith}
 use native.Mathlib.Nat.{pow-suc, add-zero, zero-add, add-suc, suc-add}
-use lib.ListN.{length}
-use lib.Arith.{lt-one}
-use lib.Count.{ones, ones_step, count_trailing_zeros}
+use lib.Count.{count_trailing_zeros}
 use Rattle.board.specs.Replay.{Each}
 use Rattle.board.specs.Tick.{keep, members_from, members}
 use Rattle.board.proofs.rules.Present.{bit_is}
@@ -60,26 +58,7 @@ low : (k w : ℕ) → w < 2 ^ k → 0 < w → (count_trailing_zeros k w < k) × 
 low zero w h p = absurd (omega arith)
 low (suc k) w h p = low-at k w (w % 2) refl p (λ q. low k (w / 2) (halved k w h) q)
 
-fall-at : (k w d : ℕ) → w % 2 ≡ d → 0 < w → (0 < w / 2 → ones (w / 2) ≡ suc (ones (w / 2 - 2 ^ count_trailing_zeros k (w / 2))))
-    → ones w ≡ suc (ones (w - 2 ^ count_trailing_zeros (suc k) w))
-unfolding count_trailing_zeros
-fall-at k w zero e p ih =
-    let z = count_trailing_zeros k (w / 2) in
-    let q = pow-suc 2 z in
-    let e₁ : (w - 2 ^ suc z) % 2 ≡ 0 = omega arith in
-    let e₂ : (w - 2 ^ suc z) / 2 ≡ w / 2 - 2 ^ z = omega arith in
-    rw e (rw (ones_step w, ones_step (w - 2 ^ suc z)) (rw (e, e₁, e₂) (let i = ih (omega arith) in omega arith)))
-fall-at k w (suc d) e p ih =
-    let e₁ : (w - 1) % 2 ≡ 0 = omega arith in
-    let e₂ : (w - 1) / 2 ≡ w / 2 = omega arith in
-    let e₃ : w % 2 ≡ 1 = omega arith in
-    rw e (ones_step w ∙ (rw (e₃, ones_step (w - 1)) (rw (e₁, e₂) (omega arith))))
-
-fall : (k w : ℕ) → w < 2 ^ k → 0 < w → ones w ≡ suc (ones (w - 2 ^ count_trailing_zeros k w))
-fall zero w h p = absurd (omega arith)
-fall (suc k) w h p = fall-at k w (w % 2) refl p (λ q. fall k (w / 2) (halved k w h) q)
-
--- what a turn uses where the lowest member is cleared by `word -= 1 << t`, in the numbers of that code
+-- what the walk uses where the lowest member is cleared by `word - (1 << t)`, in the numbers of that code
 abbrev pub cleared : ℕ → ℕ
 cleared w = w - 1 * 2 ^ count_trailing_zeros 16 w % 65536
 
@@ -87,8 +66,6 @@ pub record Lowest (w : ℕ) : Type 0 where
   pub inside : count_trailing_zeros 16 w < 16
   pub under : 1 * 2 ^ count_trailing_zeros 16 w % 65536 ≤ w
   pub rest : members w ≡ count_trailing_zeros 16 w ∷ members (cleared w)
-  pub fewer : ones w ≡ suc (ones (cleared w))
-  pub fits : cleared w < 65536
 
 -- a word that is not 0 has a lowest member
 pub lowest : (w : ℕ) → w < 65536 → 0 < w → Lowest w
@@ -99,25 +76,7 @@ lowest w h p =
       inside = l.0;
       under = rw e l.1;
       rest = rw e (rw zero-add at (next 16 0 w h p));
-      fewer = rw e (fall 16 w h p);
-      fits = omega arith;
     }
-
--- ---- how many members there are
-
-count_at : (k t w d : ℕ) → w % 2 ≡ d → length (members_from k (suc t) (w / 2)) ≡ ones (w / 2) → length (members_from (suc k) t w) ≡ ones w
-unfolding members_from
-count_at k t w zero e ih = rw e (ih ∙ (let s = ones_step w in omega arith))
-count_at k t w (suc d) e ih = rw e (let s = ones_step w in omega arith)
-
-count-from : (k t w : ℕ) → w < 2 ^ k → length (members_from k t w) ≡ ones w
-unfolding members_from ones
-count-from zero t w h = let z = lt-one h in sym (ap ones z)
-count-from (suc k) t w h = count_at k t w (w % 2) refl (count-from k (suc t) (w / 2) (halved k w h))
-
--- as many as the word has ones
-pub members-count : (w : ℕ) → w < 65536 → length (members w) ≡ ones w
-members-count w h = count-from 16 0 w h
 
 -- what holds of each number whose bit is set holds of every member
 pub each_from : (P : ℕ → Type 0) (k n w : ℕ) → ((i : ℕ) → i < k → w / 2 ^ i % 2 ≡ 1 → P (n + i)) → Each P (members_from k n w)

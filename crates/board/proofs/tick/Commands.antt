@@ -2,23 +2,25 @@
 use Rattle.std.specs.Prelude.{Option, Some, None}
 use mathlib.Core.Path.{◌≡◌, refl, sym, ap, subst, ◌∙◌}
 use mathlib.Core.Bool.{Bool, true, false, cond, ◌&&◌, ◌||◌}
-use mathlib.Core.List.{List, [], ◌∷◌, ◌++◌, append-nil, append_assoc}
+use mathlib.Core.List.{List, [], ◌∷◌, ◌++◌, map, append-nil, append_assoc}
+use Rattle.std.proofs.lemmas.List.{get_or-map}
 use Prim.Native.Nat.{ℕ, zero, suc, ◌+◌, ◌-◌, ◌≤◌, ◌<◌}
 use native.Mathlib.Omega.{arith}
 use native.Mathlib.Numerals.{add-one}
 use lib.Dec.{eqb, leb}
-use lib.ListN.{length, drop, set, get_or, length-append, length-set, drop_of_length-le}
+use lib.ListN.{length, drop, set, get_or, length-append, length-set, length-map, drop_of_length-le}
 use lib.Seq.{set-get_or, drop-cons, get_or-set_other}
 use Rattle.track.specs.declared.Track.{Track}
 use Rattle.track.specs.Rule.{STOPPED, PLAYING, PAUSED, WAITING, Valid, entered}
 use Rattle.track.specs.Grid.{PLAY, PAUSE, RESUME, STOP, grid_of}
 use Rattle.track.proofs.Tests.{cond_cases}
 use Rattle.track.proofs.Arrivals.{entered-valid}
+use Rattle.board.specs.declared.info.Info.{Info}
 use Rattle.board.specs.declared.log.Record.{Record}
 use Rattle.board.specs.Log.{log_bytes}
 use Rattle.board.specs.Board.{no_track, track_at, is_present}
-use Rattle.board.specs.Tick.{Room, Stage, staged, command_records, commanded, obeyed, obeyed_records, run_command, run_all, InfoRule, TracksRule}
-use Rattle.board.specs.Points.{ascending_from, command_of, target_of, track_count}
+use Rattle.board.specs.Tick.{Room, Stage, staged, command_records, commanded, obeyed, obeyed_records, run_command, run_all, TracksRule}
+use Rattle.board.specs.Points.{ascending_from, command_of, target_of, track_count, InfoRule}
 use Rattle.board.specs.Replay.{Each}
 use Rattle.board.proofs.points.Keys.{ascending-head, ascending-rest}
 use Rattle.board.proofs.points.Rows.{ascending-weaken}
@@ -187,6 +189,15 @@ rule-kept present ts ds j r l =
     }
 
 -- ---- the turns of the loop over the commands
+
+-- an info of a list, by the list of their numbers
+pub number-at : (ds : List Info) {ns : List ℕ} (j : ℕ) {d : Info} → map (λ (d : Info). d.number) ds ≡ ns → j < length ds → d ≡ get_or ds j d
+    → (j < length ns) × (get_or ns j 0 ≡ d.number)
+number-at ds {ns} j {d} e l is =
+    let long = length-map ds (λ (d : Info). d.number) in (
+      omega (arith, ap length e),
+      ap (λ (ns : List ℕ). get_or ns j 0) (sym e) ∙ get_or-map (λ (d : Info). d.number) ds j d 0 l ∙ ap (λ (d : Info). d.number) (sym is),
+    )
 
 -- Before turn j: the commands left do from here what all of them do from the start.
 pub record Turns (present clock : ℕ) (ds : List ℕ) (ts₀ : List Track) (xs₀ : List ℕ) (ts : List Track) (xs : List ℕ) (j : ℕ) : Type 0 where

@@ -12,9 +12,9 @@ use Rattle.track.specs.Rule.{PLAYING, Valid, event_most}
 use Rattle.track.specs.Leap.{played}
 use Rattle.track.proofs.Tests.{cond_cases, both}
 use Rattle.track.proofs.Leaps.{played-valid}
-use Rattle.board.specs.Points.{info_at, point_of, event_of, wait_of, command_of, target_of}
+use Rattle.board.specs.Points.{info_at, point_of, event_of, wait_of, command_of, target_of, InfoRule}
 use Rattle.board.specs.Board.{track_at, is_present, place_test, allowed_test, points_test}
-use Rattle.board.specs.Tick.{reached_by, InfoRule, TracksRule}
+use Rattle.board.specs.Tick.{reached_by, TracksRule}
 use Rattle.board.proofs.rules.Present.{target_below}
 use Rattle.board.proofs.tick.Commands.{at_set}
 

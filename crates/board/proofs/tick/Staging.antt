@@ -21,7 +21,7 @@ use Rattle.board.specs.declared.log.Record.{Record}
 use Rattle.board.specs.Log.{write_at, record_bytes, log_bytes, record_width}
 use Rattle.board.specs.Tick.{record_of, point_records, change_records, stepped, step_records, command_records, obeyed_records, reached_by}
 use Rattle.board.specs.Points.{waits, command_of, target_of, event_of}
-use Rattle.board.proofs.log.Records.{length-record}
+use Rattle.board.proofs.log.Records.{length_record}
 
 -- ---- bytes
 
@@ -29,7 +29,7 @@ use Rattle.board.proofs.log.Records.{length-record}
 pub length-log : (rs : List Record) → length (log_bytes rs) ≡ length rs * record_width
 unfolding log_bytes
 length-log [] = refl
-length-log (r ∷ rs) = simp (length-append, length-record, length-log rs) (omega arith)
+length-log (r ∷ rs) = simp (length-append, length_record, length-log rs) (omega arith)
 
 -- the bytes of records behind others are behind theirs
 pub log-append : (rs qs : List Record) → log_bytes (rs ++ qs) ≡ log_bytes rs ++ log_bytes qs
@@ -55,7 +55,7 @@ pub put-one : (xs : List ℕ) (n : ℕ) (r : Record) {ys : List ℕ} → n * rec
     → take ((n + 1) * record_width) ys ≡ take (n * record_width) xs ++ log_bytes (r ∷ [])
 unfolding log_bytes
 put-one xs n r h e =
-    let w : (n + 1) * record_width ≡ n * record_width + length (record_bytes r) = omega (arith, length-record r) in
+    let w : (n + 1) * record_width ≡ n * record_width + length (record_bytes r) = omega (arith, length_record r) in
     (λ j. take (w j) (e j)) ∙ take-write xs (record_bytes r) (n * record_width) h
     ∙ ap (λ (l : List ℕ). take (n * record_width) xs ++ l) (sym (append-nil (record_bytes r)))
 
@@ -109,10 +109,6 @@ cell-none t v (suc zero) h = v.cells.playing
 cell-none t v (suc (suc zero)) h = v.cells.paused
 cell-none t v (suc (suc (suc zero))) h = v.cells.waiting
 cell-none t v (suc (suc (suc (suc m)))) h = absurd (omega arith)
-
-pub change-same : (clock track : ℕ) (t : Track) (new l passes : ℕ) → Valid t → t.mode ≡ new → change_records clock track t new l passes ≡ []
-change-same clock track t new l passes v e =
-    change-none clock track t new l passes refl (ap (action_cell t t.mode) (sym e) ∙ cell-none t v t.mode v.mode)
 
 -- at most one
 pub change-most : (clock track : ℕ) (t : Track) (new l passes : ℕ) → length (change_records clock track t new l passes) ≤ 1

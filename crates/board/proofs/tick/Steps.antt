@@ -17,7 +17,7 @@ use Rattle.track.specs.Leap.{moves, remainder_left, played}
 use Rattle.track.proofs.Tests.{cond_cases, both, both_is}
 use Rattle.track.proofs.Arrivals.{entered-valid, entered-passes}
 use Rattle.track.proofs.Leaps.{played-valid, played-passes}
-use Rattle.track.proofs.Follows.{SameFollower, same-follower, then-follower, played-follower, entered-follower, banded-sound, judged-most}
+use Rattle.track.proofs.Follows.{SameFollower, same-follower, then-follower, played-follower, entered-follower, follower-sound, judged-most}
 use Rattle.board.specs.declared.Board.{Board}
 use Rattle.board.specs.declared.log.Record.{Record}
 use Rattle.board.specs.Points.{point_most, ascending_from, keys_of, infos_of, point_of, waits, track_count}
@@ -307,7 +307,7 @@ module _ (keys infos : List ℕ) (clock present : ℕ) (ts : List Track) where
   tick-sound before =
       let after : Ticks = record { 0 = before.0 + 1 } in
       tick-at (λ t. Sound t before) (λ t. Sound t after) (λ t s. later-sound t before s) (λ t s p w. played-sound t before s p w)
-      (λ t s m l. entered-sound t after s m l) (λ t m s. banded-sound (judged t m) s)
+      (λ t s m l. entered-sound t after s m l) (λ t m s. follower-sound s)
 
   -- and one that kept the rules of a board with those present keeps them
   pub tick-kept : (before : Ticks) (i j : ℕ) → Kept present j (track_at ts i) before

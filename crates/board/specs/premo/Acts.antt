@@ -80,7 +80,7 @@ is_number i track = on_some (natural_of track 0 15) (λ k. eqb k i) false
 unfoldable pub is_on : ℕ → Call → Bool
 is_on i (call.AddTrack track lo hi) = is_number i track
 is_on i (call.SetUp track c) = is_number i track
-is_on i (call.SetPoint track p e w c g) = is_number i track
+is_on i (call.SetPoint track p) = is_number i track
 is_on i (call.DropPoint track p) = is_number i track
 is_on i (call.Play track) = is_number i track
 is_on i (call.Pause track) = is_number i track
@@ -108,7 +108,7 @@ change_acts (change.Rate p q) = []
 unfoldable pub deed_of : Call → List Act
 deed_of (call.AddTrack track lo hi) = []
 deed_of (call.SetUp track c) = change_acts c
-deed_of (call.SetPoint track p e w c g) = []
+deed_of (call.SetPoint track p) = []
 deed_of (call.DropPoint track p) = []
 deed_of (call.Play track) = do_play ∷ []
 deed_of (call.Pause track) = do_pause ∷ []

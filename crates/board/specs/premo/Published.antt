@@ -5,6 +5,7 @@ use Rattle.track.specs.Rule.{STOPPED, PLAYING, stopped}
 use Rattle.board.specs.declared.Board.{Board}
 use Rattle.board.specs.Board.{track_at, is_present}
 use Rattle.board.specs.Log.{capacity}
+use Rattle.board.specs.Setup.{given_point}
 use Rattle.board.specs.Mode.{call_records}
 use Rattle.board.specs.declared.call.Call.{Call}
 use Rattle.board.specs.declared.call.Call.TheVariants as call
@@ -63,7 +64,7 @@ OfEveryList = (i : ℕ) (cs : List Call) (log : List ℕ) → Published i (trace
 abbrev pub waited_then_paused : List Call
 waited_then_paused =
     call.AddTrack (pos 0) (pos 0) (pos 10)
-    ∷ call.SetPoint (pos 0) (pos 0) (pos 7) (pos 1) (pos 0) (pos 0)
+    ∷ call.SetPoint (pos 0) (given_point (pos 0) (pos 7) (pos 1) (pos 0) (pos 0))
     ∷ call.Play (pos 0)
     ∷ call.Advance (pos 1)
     ∷ call.Pause (pos 0)
@@ -78,10 +79,10 @@ pub record Counterexample : Type 0 where
 abbrev pub every_act : List Call
 every_act =
     call.AddTrack (pos 1) (pos 0) (pos 2)
-    ∷ call.SetPoint (pos 1) (pos 1) (pos 7) (pos 1) (pos 0) (pos 0)
+    ∷ call.SetPoint (pos 1) (given_point (pos 1) (pos 7) (pos 1) (pos 0) (pos 0))
     ∷ call.AddTrack (pos 0) (pos 0) (pos 10)
-    ∷ call.SetPoint (pos 0) (pos 0) (pos 8) (pos 0) (pos 3) (pos 1)
-    ∷ call.SetPoint (pos 0) (pos 1) (pos 9) (pos 0) (pos 2) (pos 1)
+    ∷ call.SetPoint (pos 0) (given_point (pos 0) (pos 8) (pos 0) (pos 3) (pos 1))
+    ∷ call.SetPoint (pos 0) (given_point (pos 1) (pos 9) (pos 0) (pos 2) (pos 1))
     ∷ call.SetUp (pos 1) (change.Jump (pos 1))
     ∷ call.Resume (pos 1)
     ∷ call.Play (pos 1)

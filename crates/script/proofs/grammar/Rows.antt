@@ -11,13 +11,8 @@ use lib.Pointwise.{pointwise}
 use lib.Seq.{drop-cons, take_all, take-suc-set, append_snoc}
 use lib.IntN.{ℤ, pos}
 use borrow.Author.Tests.{ne_eqb, le-leb, lt-leb}
-use mir.Syntax.{w64}
-use mir.Val.{to_z}
-use mir.Facts.{to_z-of_z, to_z_pos}
 use Rattle.std.proofs.Common.{Option, Some, None}
 use Rattle.std.proofs.lemmas.List.{drop-replicate}
-use Rattle.track.proofs.Numbers.{back}
-use Rattle.board.proofs.row.Encoding.{Kept}
 use Rattle.script.specs.declared.grammar.Row.{Row}
 use Rattle.script.specs.declared.word.CodedForm.{CodedForm}
 use Rattle.board.specs.declared.call.Call.{Call}
@@ -166,15 +161,6 @@ of-calls (w ∷ fs) = from-calls w fs (code_of w) refl
 
 pub call-some : (all : List (List ℕ)) (r : Row) {o : Option Call} → Some r ≡ fields_row all → o ≡ plain_at (pos r.code ∷ r.numbers) → o ≡ fields_call all
 call-some all r e q = q ∙ ap row_calls e ∙ of-calls all
-
--- a code and six numbers, each read back from its bits, are a row
-pub call-read : (c : ℕ) (ns : List ℤ) → c ≤ 16 → Kept ns 0 → Kept ns 1 → Kept ns 2 → Kept ns 3 → Kept ns 4 → Kept ns 5 →
-    call_of (to_z w64 c) (back (get_or ns 0 (pos 0))) (back (get_or ns 1 (pos 0))) (back (get_or ns 2 (pos 0))) (back (get_or ns 3 (pos 0)))
-    (back (get_or ns 4 (pos 0))) (back (get_or ns 5 (pos 0)))
-    ≡ plain_at (pos c ∷ ns)
-call-read c ns h p0 p1 p2 p3 p4 p5 =
-    let at : (n : ℕ) → Kept ns n → back (get_or ns n (pos 0)) ≡ get_or ns n (pos 0) = λ n k. to_z-of_z {w = w64} (record { sfits = k }) in
-    λ i. call_of (to_z_pos w64 {n = c} (omega arith) i) (at 0 p0 i) (at 1 p1 i) (at 2 p2 i) (at 3 p3 i) (at 4 p4 i) (at 5 p5 i)
 
 -- ---- a whole line
 

@@ -6,11 +6,13 @@ use mathlib.Core.Bool.{Bool, true, false, cond}
 use native.Mathlib.Omega.{arith}
 use native.Mathlib.Numerals.{add-one}
 use lib.ListN.{length, get_or, drop, take, length-take, length-drop, drop_of_length-le}
-use lib.Seq.{drop-drop, length-take-le, take_all, take_at, take-append-le, take-append-add, append_snoc}
+use lib.Seq.{drop-drop, length-take-le, take_all, take-append-le, take-append-add, append_snoc}
 use lib.Dec.{leb, ltb, eqb}
 use borrow.Author.Tests.{leb-true, leb-false, ltb-false}
 use Rattle.std.proofs.Common.{Some, None}
 use Rattle.std.specs.List.{position, position_or_len}
+use borrow.Rule.Slice.PartMut.{put_mid}
+use Rattle.std.proofs.lemmas.Slice.{take-put_mid}
 use Rattle.std.proofs.lemmas.List.{take_min}
 use Rattle.std.proofs.lemmas.List.Sums.{fails_before_first}
 use Rattle.std.proofs.lemmas.List.Quantifiers.{position-Some}
@@ -88,22 +90,21 @@ whole-none s e = go (ltb n (length s)) refl e
         let l = ltb-false n (length s) q in
         λ k h. fails_before_first (λ b. eqb b 10) s k 0 (omega arith)
 
--- as many bytes are kept as there is room for
-pub kept_put : (s more put rest : List ℕ) (n from count : ℕ) → length s ≡ 65 → from ≡ min n 65 → count ≡ min (length more) (65 - from) → put ≡ take count more →
-    take (from + count) (take from s ++ (put ++ rest)) ≡ take 65 (take n s ++ more)
-kept_put s more put rest n from count l f c e =
-    let a : length (take from s) ≡ from = length-take-le from s (omega arith) in
-    let m : length put ≡ count = ap length e ∙ length-take-le count more (omega arith) in
-    let room : length (take from s) + (65 - from) ≡ 65 = omega arith in
-    let here : from + count ≡ length (take from s) + count = omega arith in
-    let least : min (65 - from) (length more) ≡ count = omega arith in
-    let at : min n (length s) ≡ from = omega arith in
-    ap (λ (k : ℕ). take k (take from s ++ (put ++ rest))) here
-    ∙ take-append-add (take from s) (put ++ rest) count
-    ∙ ap (λ (x : List ℕ). take from s ++ x) (take_at put rest count m ∙ e ∙ ap (λ (k : ℕ). take k more) (sym least) ∙ take_min (65 - from) more)
-    ∙ sym (take-append-add (take from s) more (65 - from))
-    ∙ ap (λ (k : ℕ). take k (take from s ++ more)) room
-    ∙ ap (λ (x : List ℕ). take 65 (x ++ more)) (ap (λ (k : ℕ). take k s) (sym at) ∙ take_min n s)
+-- as many bytes more are kept as there is room for
+pub kept_put : (s more put : List ℕ) (n from end : ℕ) → length s ≡ 65 → from ≡ length (take n s) → end ≡ min 65 (from + length more) → put ≡ take (end - from) more →
+    take end (put_mid from (end - from) s put) ≡ take 65 (take n s ++ more)
+kept_put s more put n from end l f e p =
+    let k = take n s in
+    let least : min (65 - from) (length more) ≡ end - from = omega (arith, length-take n s) in
+    let m : length put ≡ end - from = ap length p ∙ length-take-le (end - from) more (omega arith) in
+    let room : length k + (65 - from) ≡ 65 = omega (arith, length-take n s) in
+    take-put_mid from (end - from) s put end (omega (arith, length-take n s)) (omega (arith, length-take n s))
+    ∙ (λ i. take-length n s from f i ++ (p ∙ ap (λ (n : ℕ). take n more) (sym least) ∙ take_min (65 - from) more) i)
+    ∙ sym (take-append-add k more (65 - from))
+    ∙ ap (λ (n : ℕ). take n (k ++ more)) room
+  where
+    take-length : (n : ℕ) (s : List ℕ) (from : ℕ) → from ≡ length (take n s) → take from s ≡ take n s
+    take-length n s from f = ap (λ (k : ℕ). take k s) (f ∙ length-take n s) ∙ take_min n s
 
 -- past the end of a piece there is nothing
 pub reads-none : (r : Reader) (piece : List ℕ) (at : ℕ) → length piece ≤ at → ReadsOn r piece at None r

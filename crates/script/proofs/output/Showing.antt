@@ -11,11 +11,9 @@ use borrow.Author.Tests.{leb-true, leb-false}
 use Rattle.board.specs.declared.log.Record.{Record}
 use Rattle.board.specs.Log.{record_width, record_bytes, unpack_of, record_is, record_values}
 use Rattle.board.specs.Replay.{flat, Each}
-use Rattle.board.proofs.log.Records.{length-record}
+use Rattle.board.proofs.log.Records.{length_record}
 use Rattle.board.specs.Call.{gridstep}
-use Rattle.script.specs.declared.text.Out.{Out}
 use Rattle.script.specs.Output.{unpacked_line, record_lines, line_each}
-use Rattle.script.specs.Text.{text_of, Wrote}
 
 -- ---- records
 
@@ -57,7 +55,7 @@ lines-each [] rest h = refl
 lines-each (r ∷ rs) rest h =
     let more = flat gridstep rs ++ rest in
     let e : flat gridstep (r ∷ rs) ++ rest ≡ record_bytes r ++ more = append_assoc (record_bytes r) (flat gridstep rs) rest in
-    let l = length-record r in
+    let l = length_record r in
     ap (λ (s : List ℕ). unpacked_line (unpack_of (take record_width s)) ++ record_lines (length rs) (drop record_width s)) e
     ∙ (λ i. unpacked_line (unpack_of (take_at (record_bytes r) more record_width l i)) ++ record_lines (length rs) (drop_at (record_bytes r) more record_width l i))
     ∙ (λ i. unpacked_line (h.0 i) ++ lines-each rs rest h.1 i)
@@ -68,16 +66,12 @@ lines_next (suc n) s h =
     let z : suc n - 1 ≡ n = omega arith in
     ap (λ (k : ℕ). unpacked_line (unpack_of (take record_width s)) ++ record_lines k (drop record_width s)) (sym z)
 
--- one record more is written
-pub shown-next : {all : List ℕ} (s out out' : List ℕ) (at end left used used' : ℕ) (o : Out) → at ≤ length s → end ≡ min (at + record_width) (length s) → 0 < left →
-    all ≡ take used out ++ record_lines left (drop at s) → text_of o ≡ unpacked_line (unpack_of (take (end - at) (drop at s))) →
-    Wrote (text_of o) used out used' out' → all ≡ take used' out' ++ record_lines (left - 1) (drop end s)
-shown-next s out out' at end left used used' o h q p e t w =
-    let text = unpacked_line (unpack_of (take record_width (drop at s))) in
-    let here = sym (record-at s at end h q) in
-    let next = record-next s at end h q in
-    e
-    ∙ ap (λ (x : List ℕ). take used out ++ x) (lines_next left (drop at s) p)
-    ∙ sym (append_assoc (take used out) text (record_lines (left - 1) (drop record_width (drop at s))))
-    ∙ (λ i. take used out ++ unpacked_line (unpack_of (here i)) ++ record_lines (left - 1) (next i))
-    ∙ ap (λ (x : List ℕ). x ++ record_lines (left - 1) (drop end s)) (ap (λ (x : List ℕ). take used out ++ x) (sym t) ∙ sym w.text_is)
+-- the next record, and those behind it
+pub lines_at : (left at : ℕ) (s : List ℕ) → at ≤ length s → 0 < left → record_lines left (drop at s)
+    ≡ unpacked_line (unpack_of (take (min (at + record_width) (length s) - at) (drop at s))) ++ record_lines (left - 1) (drop (min (at + record_width) (length s)) s)
+lines_at left at s h p =
+    let end = min (at + record_width) (length s) in
+    lines_next left (drop at s) p
+    ∙ (λ i. unpacked_line (unpack_of (sym (record-at s at end h refl) i)) ++ record_lines (left - 1) (record-next s at end h refl i))
+
+pub ruleset showing = (lines_at, append_assoc)

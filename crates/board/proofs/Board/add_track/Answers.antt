@@ -1,5 +1,6 @@
 use Rattle.std.specs.Prelude.{Some}
-use Prim.Native.Nat.{ℕ, ◌+◌, ◌^◌}
+use Rattle.std.specs.Ordering.{is_le, nat_cmp}
+use Prim.Native.Nat.{ℕ, ◌+◌, ◌^◌, ◌≤◌, ◌<◌}
 use lib.Dec.{ltb}
 use lib.IntN.{ℤ}
 use lib.ListN.{set}
@@ -10,11 +11,11 @@ use native.Mathlib.Omega.{arith}
 use Rattle.track.specs.Number.{natural_of, coordinate_of, on_some}
 use Rattle.track.specs.Rule.{new_track}
 use Rattle.track.specs.declared.Coordinate.{Coordinate}
-use Rattle.track.proofs.Numbers.{natural-in, some-out, some-take}
+use Rattle.track.proofs.Numbers.{natural-in, some-out, some-take, told}
 use Rattle.track.proofs.Tests.{cond_yes, cond_no}
 use Rattle.board.proofs.call.Leaving.{add-track-leaves}
 use Rattle.board.proofs.setup.Guards.{track-added}
-use Rattle.board.proofs.setup.Results.{ok-true, some-told, none-told}
+use Rattle.board.proofs.setup.Results.{ok-some, ok-true, some-told, none-told}
 use Rattle.board.specs.Board.{is_present, unbroken_test}
 use Rattle.board.specs.Setup.{Outcome, outcome, refused, accepted, board_with, add_track}
 use Rattle.board.specs.declared.Board.{Board}
@@ -61,20 +62,28 @@ returns-in_err-high c =
     (some-told coordinate_of _ c.ranges.min c.in_ok-low.ensures)
     (some-out _ _ _ (none-told coordinate_of _ c.ranges.max c.in_err-high.ensures) q))
 
-pub returns-then-high-low : goal.returns-then-high-low
-returns-then-high-low c =
-    let i : natural_of c.args.number 0 15 ≡ Some c.in_ok-i.i = grind arith in
+-- what the test of the two bounds says
+turned : (x y : ℕ) → true ≡ is_le (nat_cmp x y) → x ≤ y
+turned x y h = grind arith
+
+ordered : (x y : ℕ) → false ≡ is_le (nat_cmp x y) → y < x
+ordered x y h = grind arith
+
+pub returns-then-le : goal.returns-then-le
+returns-then-le c =
+    let i : natural_of c.args.number 0 15 ≡ Some c.in_ok-i.i = told (λ (z : ℤ). natural_of z 0 15) c.ranges.number c.in_range.ensures (ok-some _ _ (sym c.in_ok-i.ensures.value)) in
     add-track-leaves _ _ _ _ {r = refused 3 c.args.self}
     (past _ _ _ _ (ok-true _ _ (sym c.in_ok-checked.ensures)) i (sym c.is_present.ensures ∙ c.if-is_present.false)
     (some-told coordinate_of _ c.ranges.min c.in_ok-low.ensures)
-    (some-take _ _ _ (some-told coordinate_of _ c.ranges.max c.in_ok-high.ensures) (cond_no _ _ (le-ltb _ _ c.if-high-low.true) refl)))
+    (some-take _ _ _ (some-told coordinate_of _ c.ranges.max c.in_ok-high.ensures) (cond_no _ _ (le-ltb _ _ (turned c.in_ok-high.high.0 c.in_ok-low.low.0 c.if-le.ensures)) refl)))
 
 pub returns : goal.returns
 returns c =
     let b = c.args.self in
-    let i : natural_of c.args.number 0 15 ≡ Some c.in_ok-i.i = grind arith in
+    let i : natural_of c.args.number 0 15 ≡ Some c.in_ok-i.i = told (λ (z : ℤ). natural_of z 0 15) c.ranges.number c.in_range.ensures (ok-some _ _ (sym c.in_ok-i.ensures.value)) in
+    let order : c.in_ok-low.low.0 < c.in_ok-high.high.0 = ordered c.in_ok-high.high.0 c.in_ok-low.low.0 c.if-le.ensures in
     add-track-leaves _ _ _ _ {r = accepted (board_with b (set b.tracks c.in_ok-i.i c.new.result) c.with_track.result b.points b.held)}
     (past _ _ _ _ (ok-true _ _ (sym c.in_ok-checked.ensures)) i (sym c.is_present.ensures ∙ c.if-is_present.false)
     (some-told coordinate_of _ c.ranges.min c.in_ok-low.ensures)
     (some-take _ _ _ (some-told coordinate_of _ c.ranges.max c.in_ok-high.ensures)
-    (cond_yes _ _ (lt-ltb _ _ c.if-high-low.false) (track-added b _ c.new.ensures c.with_track.ensures))))
+    (cond_yes _ _ (lt-ltb _ _ order) (track-added b _ c.new.ensures c.with_track.ensures))))

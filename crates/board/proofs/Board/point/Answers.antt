@@ -23,8 +23,8 @@ overflow_add-wanted c =
     let l : coordinate_of c.args.position ≡ Some c.in_ok-l.l = grind arith in
     omega (arith, found-below _ _ (some-told (found_in _) _ c.ranges.track c.in_ok-i.ensures), (value-coordinate _ l).1)
 
-pub invariant_of-points : goal.invariant_of-points
-invariant_of-points c = record { rule = unbroken-points _ (unbroken-of c.args.self (ok-true _ _ (sym c.in_ok-checked.ensures))) }
+pub ordered-requires : goal.ordered-requires
+ordered-requires c = record { rule = unbroken-points _ (unbroken-of c.args.self (ok-true _ _ (sym c.in_ok-checked.ensures))) }
 
 pub of-requires : goal.of-requires
 of-requires c =
@@ -32,7 +32,7 @@ of-requires c =
     let l : coordinate_of c.args.position ≡ Some c.in_ok-l.l = grind arith in
     let i = found-below _ _ (some-told (found_in _) _ c.ranges.track c.in_ok-i.ensures) in
     let m = (value-coordinate _ l).1 in
-    (omega arith, found-small c.info_at-info.ensures c.if-info-eq0.false (info-small _ u _))
+    (omega arith, found-small (rw (c.ordered.ensures.keys, c.ordered.ensures.infos) at c.info_at-info.ensures) c.if-info-eq0.false (info-small _ u _))
 
 pub returns-in_err-checked : goal.returns-in_err-checked
 unfolding point_in
@@ -57,4 +57,4 @@ returns c =
     point-leaves _ _ _ {r = Ok c.of.result}
     (cond_yes _ _ (ok-true _ _ (sym c.in_ok-checked.ensures))
     (some-take _ _ _ (some-told (found_in _) _ c.ranges.track c.in_ok-i.ensures)
-    (some-take _ _ _ l (point-shown _ c.info_at-info.ensures c.if-info-eq0.false c.of.ensures))))
+    (some-take _ _ _ l (point-shown _ (rw (c.ordered.ensures.keys, c.ordered.ensures.infos) at c.info_at-info.ensures) c.if-info-eq0.false c.of.ensures))))

@@ -24,8 +24,8 @@ overflow_add-past c = grind (arith, found-below, clamped-most)
 pub overflow_add-low : goal.overflow_add-low
 overflow_add-low c = grind (arith, found-below, clamped-most)
 
-pub invariant_of-points : goal.invariant_of-points
-invariant_of-points c = record { rule = unbroken-points _ (unbroken-of c.args.self (ok-true _ _ (sym c.in_ok-checked.ensures))) }
+pub ordered-requires : goal.ordered-requires
+ordered-requires c = record { rule = unbroken-points _ (unbroken-of c.args.self (ok-true _ _ (sym c.in_ok-checked.ensures))) }
 
 pub returns-in_err-checked : goal.returns-in_err-checked
 unfolding count_in
@@ -39,8 +39,8 @@ pub returns : goal.returns
 unfolding count_in
 returns c =
     let h = ok-true _ _ (sym c.in_ok-checked.ensures) in
-    point-count-leaves _ _ _ _ {r = Ok c.count_between.result}
+    point-count-leaves _ _ _ _ {r = Ok c.count_between-count.result}
     (cond_yes _ _ h
     (some-take _ _ _ (some-told (found_in _) _ c.ranges.track c.in_ok-base.ensures)
     (ap Ok (counted _ (unbroken-of c.args.self h) _ _ _ (c.clamped-2.ensures ∙ ap clamped_of (to_z-of_z c.ranges.from)) c.saturating_sub.ensures
-    (c.clamped.ensures ∙ ap clamped_of (to_z-of_z c.ranges.to)) c.count_between.ensures))))
+    (c.clamped.ensures ∙ ap clamped_of (to_z-of_z c.ranges.to)) (rw c.ordered.ensures.keys at c.count_between-count.ensures)))))

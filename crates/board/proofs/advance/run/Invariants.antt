@@ -17,12 +17,11 @@ decreases-ticks l =
     turns_left l.look (l.wanted - l.taken)
     (world (board_at l.b l.tracks l.clock l.held) l.log)
 
-abbrev pub invariant-loop-left : goal.invariant-loop-left
-invariant-loop-left l =
+abbrev pub invariant-loop-i : goal.invariant-loop-i
+invariant-loop-i l =
     record {
+      can_next : (goal.iterator-loop-i).can_next l.i-iterator;
+      is_finite : (goal.iterator-loop-i).is_finite l.i-iterator;
       pass : Pass l.b l.wanted l.fn.log l.log l.initial.tracks l.back l.clock l.held l.taken l.word l.led l.skipped l.room;
-      turning : Turning l.b l.initial.tracks l.clock l.word l.skipped l.stage l.reached l.tracks l.rest l.left l.more;
+      turning : Turning l.b l.initial.tracks l.clock l.word l.skipped l.stage l.reached l.tracks l.i-iterator.0 l.more;
     }
-
-abbrev pub decreases-loop-left : goal.decreases-loop-left
-decreases-loop-left l = l.left

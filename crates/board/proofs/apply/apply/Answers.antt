@@ -12,7 +12,7 @@ pub returns-in-SetUp : goal.returns-in-SetUp
 returns-in-SetUp c = applied _ (c.in-SetUp.is ∙ (λ j. call.SetUp (passed c.in-SetUp.i (search rules) j) c.in-SetUp.change)) (c.set_up.ensures _) c.accepted-in-SetUp.ensures
 
 pub returns-in-SetPoint : goal.returns-in-SetPoint
-returns-in-SetPoint c = applied _ (c.in-SetPoint.is ∙ (λ j. call.SetPoint (passed c.in-SetPoint.i (search rules) j) (passed c.in-SetPoint.p (search rules) j) (passed c.in-SetPoint.e (search rules) j) (passed c.in-SetPoint.w (search rules) j) (passed c.in-SetPoint.k (search rules) j) (passed c.in-SetPoint.g (search rules) j))) (c.set_point.ensures _) c.accepted-in-SetPoint.ensures
+returns-in-SetPoint c = applied _ (c.in-SetPoint.is ∙ (λ j. call.SetPoint (passed c.in-SetPoint.i (search rules) j) c.in-SetPoint.p)) (c.set_point.ensures _) c.accepted-in-SetPoint.ensures
 
 pub returns-in-DropPoint : goal.returns-in-DropPoint
 returns-in-DropPoint c = applied _ (c.in-DropPoint.is ∙ (λ j. call.DropPoint (passed c.in-DropPoint.i (search rules) j) (passed c.in-DropPoint.p (search rules) j))) (c.drop_point.ensures _) c.accepted-in-DropPoint.ensures

@@ -4,8 +4,11 @@ use Rattle.board.proofs.tick.Staging.{staged-none}
 use Rattle.board.specs.Log.{log_bytes}
 use Rattle.board.specs.Tick.{band_records}
 use Rattle.track.proofs.Follows.{judged-most}
+use Rattle.track.specs.Rule.{threshold_count}
+use borrow.Author.Rules.{rules}
+use lib.ListN.{length}
 use mathlib.Core.List.{◌++◌}
-use mathlib.Core.Path.{sym, ap, ◌∙◌}
+use mathlib.Core.Path.{◌≡◌, sym, ap, ◌∙◌}
 use native.Mathlib.Omega.{arith}
 use Rattle.board.proofs.follow.judge_band.Goals as goal
 
@@ -18,9 +21,10 @@ returns-then-band-t-clause-records c =
     ]
 
 pub bounds-t-band : goal.bounds-t-band
-bounds-t-band c = let m = judged-most c.args.t c.args.m in
-    let u = up-most c.args.t.thresholds in
-    omega (arith, c.judged-band.ensures, m, u, c.requires.follow_rule.thresholds, c.if-band-eq0.false)
+bounds-t-band c = let m = judged-most c.args.follower.track c.args.master.track in
+    let long : length c.args.follower.track.thresholds ≡ threshold_count = search rules in
+    let u = up-most c.args.follower.track.thresholds in
+    omega (arith, c.judged-band.ensures, m, u, long, c.if-band-eq0.false)
 
 pub returns-clause-records : goal.returns-clause-records
 returns-clause-records c =

@@ -1,11 +1,8 @@
-use Prim.Native.Nat.{◌<◌}
 use Rattle.board.proofs.follow.Judging.{Judging}
 use Rattle.board.specs.Tick.{members}
-use lib.Count.{ones}
 use Rattle.board.proofs.follow.judge_bands.Given as goal
 
-abbrev pub invariant-loop-left : goal.invariant-loop-left
-invariant-loop-left l = (l.left < 65536) × Judging l.clock.0 (members l.led) l.initial.next l.initial.stage l.next l.stage (members l.left)
-
-abbrev pub decreases-loop-left : goal.decreases-loop-left
-decreases-loop-left l = ones l.left
+abbrev pub invariant-loop-i : goal.invariant-loop-i
+invariant-loop-i l = (goal.iterator-loop-i).can_next l.i-iterator
+    × (goal.iterator-loop-i).is_finite l.i-iterator
+    × Judging l.clock.0 (members l.led) l.initial.tracks l.initial.stage l.tracks l.stage (members l.i-iterator.0)

@@ -1,29 +1,27 @@
-use Prim.Native.Nat.{ℕ, min}
-use Rattle.board.proofs.master.Pairs.{chunk-low, chunk-event, chunk-next, chunk-end}
+use Rattle.std.proofs.Common.{rules, tests}
+use Rattle.std.proofs.lemmas.Iterator.{YieldsList-from_slice}
+use Rattle.std.proofs.lemmas.Iterator.Search.{all_from_yields_List}
+use Rattle.std.specs.List.{list_all}
+use Rattle.board.specs.Setup.{ranged_test}
+use Rattle.board.proofs.master.Pairs.{ranged-whole, ranged-odd}
 use lib.ListN.{length}
-use mathlib.Core.Path.{◌≡◌, ◌∙◌, ap, sym}
+use mathlib.Core.Path.{◌≡◌, ap, ◌∙◌}
+use native.Mathlib.Nat.{div-add-mod', mod-lt}
+use native.Mathlib.Omega.{arith}
+use Prim.Native.Nat.{◌/◌}
 use Rattle.board.proofs.master.ranged.Goals as goal
 
-pub returns-then-number_at-eq0 : goal.returns-then-number_at-eq0
-returns-then-number_at-eq0 c =
-    let s = c.in-Some.ensures.steps.1 in
-    let l : length c.in-Some.pair.now ≡ min 2 (length c.loop-pair.pair-iterator.rest.now) =
-    s.1 ∙ ap (λ (n : ℕ). min n (length c.loop-pair.pair-iterator.rest.now)) c.loop-pair.invariant.0 in
-    elim c.then-number_at-eq0.branch [
-      | goal.then-number_at-eq0-via-then-number_at-eq0 w ↦ chunk-low _ _ s.0 l s.2 (sym c.number_at.ensures ∙ w.if-number_at-eq0.true) ∙ c.loop-pair.invariant.1
-      | goal.then-number_at-eq0-via-else-number_at-eq0+then-number_at-eq0-2 w ↦ chunk-event _ _ s.0 l s.2 (sym w.number_at-else-number_at-eq0.ensures ∙ w.if-number_at-eq0-2.true) ∙ c.loop-pair.invariant.1
-    ]
+pub returns-then-is_empty : goal.returns-then-is_empty
+returns-then-is_empty c =
+    let y = YieldsList-from_slice {s = c.iter.result} c.as_chunks.result.0.now c.iter.ensures.rest in
+    let a = all_from_yields_List (λ x. ranged_test x) _ _ c.all.result c.all.ensures.ran y (λ x b q k. search (rules, tests)) in
+    let n : length c.as_chunks.result.1.now ≡ 0 = grind arith in
+    let l = div-add-mod' (length c.args.pairs.now) 2 in
+    a ∙ ap (list_all ranged_test) c.as_chunks.ensures.front
+    ∙ ranged-whole (length c.args.pairs.now / 2) c.args.pairs.now (omega (arith, n, l, c.as_chunks.ensures.back_len))
 
-pub loop-pair-preserved : goal.loop-pair-preserved
-loop-pair-preserved c =
-    let s = c.in-Some.ensures.steps.1 in
-    let l : length c.in-Some.pair.now ≡ min 2 (length c.loop-pair.pair-iterator.rest.now) =
-    s.1 ∙ ap (λ (n : ℕ). min n (length c.loop-pair.pair-iterator.rest.now)) c.loop-pair.invariant.0 in (
-      c.in-Some.ensures.steps.0 ∙ c.loop-pair.invariant.0,
-      chunk-next _ _ s.0 l s.2 (λ z. c.if-number_at-eq0.false (c.number_at.ensures ∙ z))
-          (λ z. c.if-number_at-eq0-2.false (c.number_at-else-number_at-eq0.ensures ∙ z))
-          ∙ c.loop-pair.invariant.1,
-    )
-
-pub returns : goal.returns
-returns c = chunk-end c.loop-pair.pair-iterator.rest.now c.in-None.ensures.steps.1.0 ∙ c.loop-pair.invariant.1
+pub returns-else-is_empty : goal.returns-else-is_empty
+returns-else-is_empty c =
+    let n : (length c.as_chunks.result.1.now ≡ 0 → ⊥) = grind arith in
+    let l = div-add-mod' (length c.args.pairs.now) 2 in
+    c.if-is_empty.false ∙ ranged-odd (length c.args.pairs.now / 2) c.args.pairs.now (omega (arith, n, l, mod-lt (length c.args.pairs.now) {m = 2} (omega arith), c.as_chunks.ensures.back_len))

@@ -48,11 +48,17 @@ overflow_cast-at-2 c =
     record { kept = grind arith; found = grind arith; goes = grind arith } in
     omega (arith, found-below _ _ p.found)
 
+pub invariant_of-valid : goal.invariant_of-valid
+invariant_of-valid c =
+    let p : Passed c.args.b.now c.args.track c.args.call c.in_ok-at.field-0 c.in_ok-new.new =
+    record { kept = grind arith; found = grind arith; goes = grind arith } in
+    record { valid = valid _ _ _ p }
+
 pub change_record-requires : goal.change_record-requires
 change_record-requires c =
     let p : Passed c.args.b.now c.args.track c.args.call c.in_ok-at.field-0 c.in_ok-new.new =
     record { kept = grind arith; found = grind arith; goes = grind arith } in
-    record { valid = valid _ _ _ p; bound = low _ _ _ p }
+    low _ _ _ p
 
 -- ---- the ways out
 

@@ -8,8 +8,8 @@ new-band-requires c = record { small = rows-small 0 _ _ c.requires.events_value;
 pub returns : goal.returns
 returns c = holds-steady _ _
     (record {
-      valid = c.requires.valid;
-      master = c.requires.valid_2;
+      valid = c.args.follower.valid;
+      master = c.args.master.valid;
       runs = c.if-t-eq-STOPPED.false;
       leads = c.if-m-eq-STOPPED.false;
       pairs = c.requires.events_value;

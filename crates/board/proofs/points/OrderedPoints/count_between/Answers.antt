@@ -1,12 +1,12 @@
 use Prim.Native.Nat.{◌+◌}
 use Rattle.board.proofs.points.Ranges.{count_none, count-ranks}
-use Rattle.board.specs.Points.{count_of, between, keys_of}
+use Rattle.board.specs.Points.{count_of, between}
 use mathlib.Core.Path.{◌≡◌, sym}
 use native.Mathlib.Omega.{arith}
 use Rattle.board.proofs.points.OrderedPoints.count_between.Goals as goal
 
 ranks : (c : goal.After-first_from-j)
-    → c.first_from-i.result + count_of (between c.args.from c.args.past) (keys_of c.args.self.points.now)
+    → c.first_from-i.result + count_of (between c.args.from c.args.past) c.args.self.keys.now
     ≡ c.first_from-j.result
 ranks c =
     rw (c.first_from-i.ensures, c.first_from-j.ensures)

@@ -6,5 +6,5 @@ pub returns : goal.returns
 returns c =
     round-within c.args.self.follower.track c.args.self.master.track c.args.self.follower.valid c.args.self.master.valid _ _
     (eq-eqb _ _ c.if-t-ne-PLAYING.false) (eq-eqb _ _ c.if-m-ne-PLAYING.false) (ne_eqb _ _ c.if-t-eq-DUE.false)
-    (ne_eqb _ _ c.if-m-eq-DUE.false) c.if-t-k.false _
-    (rw (c.fine.ensures.0, c.fine-2.ensures.0, c.span.ensures, c.span-2.ensures, c.scaled.ensures) at c.rounds.ensures)
+    (ne_eqb _ _ c.if-m-eq-DUE.false) (rw (c.from.ensures, c.from-k.ensures, c.from-else-m-eq-DUE.ensures, c.from-q.ensures) at c.if-from-k.false) _
+    (rw (c.fine.ensures.0, c.fine-2.ensures.0, c.from-2.ensures, c.span.ensures, c.from-3.ensures, c.span-2.ensures, c.scaled.ensures, c.from-k.ensures, c.from-q.ensures) at c.rounds.ensures)
