@@ -15,7 +15,9 @@ impl Iterator for Members {
 
     fn next(&mut self) -> Option<usize> {
         let word = self.0;
-        if word == 0 {
+        // 01 names this form: the ones count says how many remain, and trailing zeros give the next.
+        let left = word.count_ones();
+        if left == 0 {
             return None;
         }
         let i = word.trailing_zeros() as usize;
