@@ -40,6 +40,11 @@ band-is (suc x ∷ row) drift =
     at true = omega arith
     at false = refl
 
+-- from a 0 on there is none
+pub count_none : (row : List ℕ) (k : ℕ) → k < length row → get_or row k 0 ≡ 0 → length (up_to_zero (drop k row)) ≡ 0
+unfolding up_to_zero
+count_none row k l h = rw (drop-cons row k 0 l, h)
+
 -- ---- thresholds and their events
 
 zeros-is : (xs : List ℕ) → zeros_test xs ≡ list_all (λ x. nat_eq x 0) xs
@@ -64,6 +69,13 @@ module _ (low : ℕ) (xs es : List ℕ) (k : ℕ) where
         && pairs_test (get_or xs k 0) (drop (k + 1) xs) (drop (k + 1) es))
     unfolding pairs_test
     pairs_some h = rw (add-one, drop-cons xs k 0 l, drop-cons es k 0 m, ne_eqb (get_or xs k 0) 0 h) (simp and_assoc)
+
+    -- then the rules from there on are those behind it
+    pub pairs_next : (get_or xs k 0 ≡ 0 → ⊥) → {b : Bool} →
+        b ≡ (ltb low (get_or xs k 0) && (leb (get_or xs k 0) threshold_most && (leb 1 (get_or es k 0) && leb (get_or es k 0) event_most))) →
+        b ≡ true → pairs_test (get_or xs k 0) (drop (k + 1) xs) (drop (k + 1) es) ≡ pairs_test low (drop k xs) (drop k es)
+    pairs_next h e g =
+        sym (pairs_some h ∙ ap (λ (p : Bool). p && pairs_test (get_or xs k 0) (drop (k + 1) xs) (drop (k + 1) es)) (sym e ∙ g))
 
   pub pairs_end : length xs ≤ k → length es ≤ k → pairs_test low (drop k xs) (drop k es) ≡ true
   unfolding pairs_test zeros_test
@@ -140,6 +152,10 @@ entered-follower t m = cond_cases (SameFollower t) (eqb m STOPPED) (λ e. moved-
 pub step-follower : (t : Track) (w : Bool) → SameFollower t (step t w)
 unfolding step visited
 step-follower t w = cond_cases (SameFollower t) (stops t) (λ e. moved-follower) (λ e. moved-follower)
+
+pub stride-follower : (t : Track) (n : ℕ) → SameFollower t (stride t n)
+unfolding stride
+stride-follower t n = moved-follower
 
 pub leap-follower : (t : Track) (n : ℕ) → SameFollower t (leap t n)
 unfolding leap stride

@@ -111,6 +111,11 @@ within_range low high (Some c) = grind (arith, nat_tests)
 pub within_in : (low high : ℕ) (p : Option Coordinate) {c : Coordinate} → within low high p ≡ Some c → (low ≤ c.0) × (c.0 ≤ high) × (p ≡ Some c)
 within_in low high p e = rw e at (within_range low high p)
 
+-- and a coordinate in its range is found
+pub between_in : (low high : ℕ) (c : Coordinate) (p : Option Coordinate) → p ≡ Some c → low ≤ c.0 → c.0 ≤ high → Some c ≡ within low high p
+unfolding within
+between_in low high c p e h k = sym (ap (within low high) e ∙ simp (le-leb low c.0 h, le-leb c.0 high k))
+
 -- ---- the bounds of a range of positions
 leb-same : (a b c d : ℕ) → (a ≤ b → c ≤ d) → (b < a → d < c) → leb a b ≡ leb c d
 leb-same a b c d f g = at (leb a b) refl

@@ -170,6 +170,11 @@ module _ (t : Track) (v : Valid t) where
       ∙ ap (place t) (ap (λ (x : ℕ). x % span t) (omega arith) ∙ add-mod_right (next t + n) (span t))
       ∙ sym (stride-arrival t v n)
 
+-- a location ahead of the next arrival is reached in this round
+pub steps_up : (t : Track) (l : ℕ) {c f : ℕ} → c ≡ next t → f ≡ phase t l → c ≤ f → f - c ≡ steps_to t l
+unfolding steps_to
+steps_up t l {c} {f} ec ef h = simp (← ec, ← ef, le-leb c f h)
+
 -- n single steps that find no wait flag and do not stop the track are one stride
 pub stride-walk : (wait : ℕ → Bool) (t : Track) → Valid t → (n : ℕ) → (repeats t ≡ false → n < stop_step t) →
     ((j : ℕ) → j < n → wait (arrival (stride t j)) ≡ false) → walk wait t n ≡ stride t n

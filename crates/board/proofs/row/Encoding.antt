@@ -1,12 +1,12 @@
 -- The laws of calls and replies as rows of numbers.
-use Rattle.std.specs.Prelude.{Some, None}
+use Rattle.std.specs.Prelude.{Option, Some, None}
 use mathlib.Core.Path.{◌≡◌, refl, sym, ap, ◌∙◌}
 use mathlib.Core.Bool.{Bool, true, false, cond}
 use mathlib.Core.List.{List, [], ◌∷◌, ◌++◌, append_assoc}
 use Prim.Native.Nat.{ℕ, zero, suc, ◌-◌, ◌^◌, ◌<◌, min}
 use native.Mathlib.Nat.{zero-add}
 use native.Mathlib.Omega.{arith}
-use borrow.Author.Tests.{eqb-true, leb-true, leb-false}
+use borrow.Author.Tests.{ne_eqb, eqb-true, leb-true, leb-false}
 use lib.Dec.{eqb, leb}
 use lib.IntN.{ℤ, pos, negsuc}
 use lib.ListN.{length, take, drop, replicate, length-append}
@@ -17,11 +17,11 @@ use mir.Val.{hbits}
 use mir.Facts.{to_z-of_z}
 use mir.Val.{of_z}
 use Rattle.track.specs.Rule.{cell_count, threshold_count}
-use Rattle.track.specs.Number.{capped_of, value_of, coordinate_at}
+use Rattle.track.specs.Number.{natural_of, capped_of, on_some, value_of, coordinate_at}
 use Rattle.track.specs.declared.Coordinate.{Coordinate}
-use Rattle.track.proofs.Numbers.{capped-in, coordinate-at, back}
+use Rattle.track.proofs.Numbers.{natural-in, natural-of, capped-in, coordinate-at, back}
 use Rattle.board.specs.Log.{write_at}
-use Rattle.board.specs.Row.{call_width, reply_width, call_of, plain_at, row_number, pairs_from, pairs_in, master_code, is_code, master_call, master_in, call_at, padded, track_numbers, cells_at, master_at, thresholds_at, events_at, rate_at}
+use Rattle.board.specs.Row.{call_width, reply_width, call_from, call_of, plain_at, row_number, pairs_from, pairs_in, master_code, is_code, master_call, master_in, call_at, padded, track_numbers, cells_at, master_at, thresholds_at, events_at, rate_at}
 use Rattle.board.specs.Call.{TrackValues}
 use Rattle.board.specs.declared.call.Call.TheVariants as call
 use Rattle.board.specs.declared.call.Pairs.{Pairs}
@@ -29,6 +29,49 @@ use Rattle.board.specs.declared.call.Pairs.TheVariants as pairs
 use Rattle.board.proofs.log.Words.{write-write}
 
 -- ---- the call of a row
+
+-- above 22 there is no call
+no_code : (n : ℕ) (a b c d e f : ℤ) → 22 < n → call_from n a b c d e f ≡ None
+no_code n a b c d e f h =
+    simp (
+      ne_eqb n 1 (omega arith),
+      ne_eqb n 2 (omega arith),
+      ne_eqb n 3 (omega arith),
+      ne_eqb n 4 (omega arith),
+      ne_eqb n 5 (omega arith),
+      ne_eqb n 6 (omega arith),
+      ne_eqb n 7 (omega arith),
+      ne_eqb n 8 (omega arith),
+      ne_eqb n 9 (omega arith),
+      ne_eqb n 10 (omega arith),
+      ne_eqb n 11 (omega arith),
+      ne_eqb n 12 (omega arith),
+      ne_eqb n 13 (omega arith),
+      ne_eqb n 14 (omega arith),
+      ne_eqb n 15 (omega arith),
+      ne_eqb n 16 (omega arith),
+      ne_eqb n 17 (omega arith),
+      ne_eqb n 18 (omega arith),
+      ne_eqb n 19 (omega arith),
+      ne_eqb n 20 (omega arith),
+      ne_eqb n 22 (omega arith),
+    )
+
+-- a number outside 1 to 22 is the code of no call
+pub code_out : (z : ℤ) (a b c d e f : ℤ) → natural_of z 1 22 ≡ None → None ≡ call_of z a b c d e f
+code_out (negsuc k) a b c d e f h = refl
+code_out (pos k) a b c d e f h = go (leb k 22) (leb 1 k) refl refl
+  where
+    go : (s t : Bool) → leb k 22 ≡ s → leb 1 k ≡ t → None ≡ call_from k a b c d e f
+    go false t p q = sym (no_code k a b c d e f (leb-false _ _ p))
+    go true false p q = let z : 0 ≡ k = omega (arith, leb-false 1 k q) in ap (λ (n : ℕ). call_from n a b c d e f) z
+    go true true p q =
+        ap (λ (o : Option ℕ). on_some o (λ j. call_from j a b c d e f) None)
+        (sym h ∙ natural-of k 1 22 (leb-true _ _ q) (leb-true _ _ p))
+
+-- and one within is that code
+pub code_in : (z : ℤ) {n : ℕ} (a b c d e f : ℤ) → natural_of z 1 22 ≡ Some n → call_from n a b c d e f ≡ call_of z a b c d e f
+code_in z a b c d e f h = sym (ap (λ (y : ℤ). call_of y a b c d e f) (natural-in z 1 22 h).0)
 
 -- a number that is not 21 is not the code of a master call
 code-no : (z : ℤ) → (of_z w64 z ≡ master_code → ⊥) → is_code master_code z ≡ false

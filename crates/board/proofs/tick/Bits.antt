@@ -4,7 +4,9 @@ use mathlib.Core.Path.{◌≡◌, refl, sym, ap, subst, ◌∙◌}
 use mathlib.Core.List.{List, [], ◌∷◌}
 use native.Mathlib.Omega.{arith}
 use native.Mathlib.Nat.{pow-suc, add-zero, zero-add, add-suc, suc-add}
-use lib.Count.{count_trailing_zeros}
+use lib.ListN.{length}
+use lib.Arith.{lt-one}
+use lib.Count.{ones, ones_step, count_trailing_zeros}
 use Rattle.board.specs.Replay.{Each}
 use Rattle.board.specs.Tick.{keep, members_from, members}
 use Rattle.board.proofs.rules.Present.{bit_is}
@@ -21,6 +23,30 @@ none_from (suc k) t = none_from k (suc t)
 -- 0 has no members
 pub no-members : (w : ℕ) → w ≤ 0 → members w ≡ []
 no-members w h = let z : w ≡ 0 = omega arith in ap members z ∙ none_from 16 0
+
+-- ---- how many members there are
+
+count_at : (k t w d : ℕ) → w % 2 ≡ d → length (members_from k (suc t) (w / 2)) ≡ ones (w / 2) → length (members_from (suc k) t w) ≡ ones w
+unfolding members_from
+count_at k t w zero e ih = rw e (ih ∙ (let s = ones_step w in omega arith))
+count_at k t w (suc d) e ih = rw e (let s = ones_step w in omega arith)
+
+count-from : (k t w : ℕ) → w < 2 ^ k → length (members_from k t w) ≡ ones w
+unfolding members_from ones
+count-from zero t w h = let z = lt-one h in sym (ap ones z)
+count-from (suc k) t w h = count_at k t w (w % 2) refl (count-from k (suc t) (w / 2) (halved k w h))
+
+-- as many as the word has ones
+pub members-count : (w : ℕ) → w < 65536 → length (members w) ≡ ones w
+members-count w h = count-from 16 0 w h
+
+-- a word without ones has no member
+pub none_left : (rest : ℕ) → rest < 65536 → ones rest ≤ 0 → members rest ≡ []
+none_left rest small l = empty (members rest) (omega (arith, members-count rest small))
+  where
+    empty : (is : List ℕ) → length is ≤ 0 → is ≡ []
+    empty [] l = refl
+    empty (i ∷ is) l = absurd (omega arith)
 
 -- ---- the lowest member of a word that is not 0 is its trailing zeros; the word without it has the other members
 
@@ -66,16 +92,22 @@ pub record Lowest (w : ℕ) : Type 0 where
   pub inside : count_trailing_zeros 16 w < 16
   pub under : 1 * 2 ^ count_trailing_zeros 16 w % 65536 ≤ w
   pub rest : members w ≡ count_trailing_zeros 16 w ∷ members (cleared w)
+  pub fewer : ones w ≡ suc (ones (cleared w))
+  pub fits : cleared w < 65536
 
 -- a word that is not 0 has a lowest member
 pub lowest : (w : ℕ) → w < 65536 → 0 < w → Lowest w
 lowest w h p =
     let l = low 16 w h p in
     let e = bit_is (count_trailing_zeros 16 w) l.0 in
+    let rest : members w ≡ count_trailing_zeros 16 w ∷ members (cleared w) = rw e (rw zero-add at (next 16 0 w h p)) in
+    let fits : cleared w < 65536 = omega arith in
     record {
       inside = l.0;
       under = rw e l.1;
-      rest = rw e (rw zero-add at (next 16 0 w h p));
+      rest = rest;
+      fewer = sym (members-count w h) ∙ ap length rest ∙ ap suc (members-count (cleared w) fits);
+      fits = fits;
     }
 
 -- what holds of each number whose bit is set holds of every member

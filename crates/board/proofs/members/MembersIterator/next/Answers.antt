@@ -1,8 +1,7 @@
 use Prim.Native.Nat.{ℕ, zero, suc, ◌<◌}
 use Rattle.std.specs.Prelude.{count_ones}
 use Rattle.std.specs.Int.Count.{ones}
-use Rattle.std.proofs.lemmas.Nat.{zero_from_ones}
-use Rattle.board.proofs.tick.Bits.{lowest, no-members}
+use Rattle.board.proofs.tick.Bits.{lowest, none_left}
 use borrow.Author.Rules.{rules}
 use native.Mathlib.Omega.{arith}
 use mathlib.Core.Path.{◌≡◌, refl, ap}
@@ -17,7 +16,7 @@ some_left (suc w) h = omega arith
 
 pub returns-then-left-eq0-clause-steps : goal.returns-then-left-eq0-clause-steps
 returns-then-left-eq0-clause-steps c =
-    let n = no-members c.args.self.now.0 (omega (arith, zero_from_ones c.args.self.now.0 c.if-left-eq0.true)) in (n, n)
+    let n = none_left c.args.self.now.0 (search rules) (omega (arith, c.if-left-eq0.true)) in (n, n)
 
 pub overflow_shl-self : goal.overflow_shl-self
 overflow_shl-self c = (lowest c.args.self.now.0 (search rules) (some_left _ c.if-left-eq0.false)).inside
