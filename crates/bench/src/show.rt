@@ -56,9 +56,16 @@ impl Kind {
     }
 }
 
-// The position of a coordinate, in more bits than a reply's number has.
-fn position(coordinate: u64) -> i128 {
-    i128::from(coordinate) - i128::from(Coordinate::BIAS)
+// A coordinate, printed as its position: the sign and the size, since a reply's number may be above an `i64`.
+#[derive(Clone, Copy)]
+struct Position(u64);
+
+impl fmt::Display for Position {
+    fn fmt<W: fmt::Write>(&self, f: &mut fmt::Formatter<W>) -> fmt::Result {
+        let zero = Coordinate::BIAS as u64;
+        let sign = if self.0 < zero { "-" } else { "" };
+        write!(f, "{sign}{}", self.0.abs_diff(zero))
+    }
 }
 
 // A reply: its numbers, the kind first.
@@ -81,7 +88,7 @@ impl fmt::Display for Reply {
         write!(f, "{}", self.0[0])?;
         for (k, n) in self.0.iter().enumerate().take(kind.width()).skip(1) {
             if kind.is_place(k) {
-                write!(f, ",{}", position(*n))?;
+                write!(f, ",{}", Position(*n))?;
             } else {
                 write!(f, ",{n}")?;
             }
@@ -105,7 +112,7 @@ impl fmt::Display for Held<'_> {
                 r.kind,
                 r.event,
                 r.detail,
-                position(u64::from(r.position.0)),
+                Position(u64::from(r.position.0)),
                 r.passes.0
             ),
             Err(_) => write!(f, "no record"),

@@ -33,12 +33,12 @@ line_room = 160
 
 -- what has been written
 abbrev pub text_of : Out → List ℕ
-text_of o = o.text.bytes
+text_of o = take o.length o.bytes
 
 -- more is written behind what was, in so many bytes at most
 pub record Adds (o : Out) (more : List ℕ) (most : ℕ) (r : Out) : Type 0 where
   pub adds : text_of r ≡ text_of o ++ more
-  pub few : length (text_of r) ≤ length (text_of o) + most
+  pub few : r.length ≤ o.length + most
 
 -- a text has been written into a buffer, of which so many bytes were used
 pub record Wrote (text : List ℕ) (used : ℕ) (out : List ℕ) (used' : ℕ) (out' : List ℕ) : Type 0 where

@@ -3,14 +3,17 @@ ghost use Rattle.std.specs.Prelude.{◌≡◌, [], ◌++◌, ◌+◌, ◌≤◌,
 ghost use Rattle.board.specs.Log.{position_of};
 ghost use Rattle.script.specs.Text.{digits_most, line_room, decimal, signed, text_of, Adds, Wrote};
 
-use arrayvec::ArrayString;
 use itoa::Buffer;
 use track::Coordinate;
 
-// A line of output, in fixed memory since there is no heap for a `String`. No clause says that `write!` succeeds.
+// Four bytes from here on stand for a position below zero.
+const BELOW: u32 = 1 << 31;
+
+// A line of output: any bytes, as a caller may have them. `ArrayString` is UTF-8, `ArrayVec` is not `Copy`, and no clause says that `write!` succeeds.
 #[derive(Clone, Copy)]
 pub struct Out {
-    pub text: ArrayString<{ Out::ROOM }>,
+    pub length: usize,
+    pub bytes: [u8; Out::ROOM],
 }
 
 impl Out {
@@ -18,25 +21,28 @@ impl Out {
     pub const ROOM: usize = 160;
 
     pub fn new() -> Out
-        ensures { text_of result ≡ [] }
+        ensures { (text_of result ≡ []) × (result.length ≡ 0) }
     {
         Out {
-            text: ArrayString::new(),
+            length: 0,
+            bytes: [0; Out::ROOM],
         }
     }
 
     // A text behind what is there.
     pub(crate) fn push(&mut self, text: &str)
-        requires { length (text_of self.old) + length text.now ≤ line_room }
+        requires { self.old.length + length text.now ≤ line_room }
         ensures { Adds self.old text.now (length text.now) self.new }
     {
-        self.text.push_str(text);
+        let end = self.length + text.len();
+        self.bytes[self.length..end].copy_from_slice(text.as_bytes());
+        self.length = end;
     }
 
     // A number and the text behind it.
     #[tactic(auto, using(crate::proofs::text::Written::decimal_is, std::proofs::Common::append_assoc))]
     pub(crate) fn number(&mut self, n: u64, behind: &str)
-        requires { length (text_of self.old) + digits_most + length behind.now ≤ line_room }
+        requires { self.old.length + digits_most + length behind.now ≤ line_room }
         ensures { Adds self.old (decimal n ++ behind.now) (digits_most + length behind.now) self.new }
     {
         self.push(Buffer::new().format(n));
@@ -44,14 +50,27 @@ impl Out {
     }
 
     // The position of a coordinate, which wraps in four bytes, and the text behind it.
-    #[tactic(auto, using(crate::proofs::text::Written::positions))]
     pub(crate) fn position(&mut self, c: Coordinate, behind: &str)
-        requires { length (text_of self.old) + digits_most + length behind.now ≤ line_room }
+        requires { self.old.length + digits_most + length behind.now ≤ line_room }
         ensures { Adds self.old (signed (position_of c) ++ behind.now) (digits_most + length behind.now) self.new }
     {
-        let position = c.0.wrapping_sub(Coordinate::BIAS as u32).cast_signed();
-        self.push(Buffer::new().format(position));
+        let ahead = c.0.wrapping_sub(Coordinate::BIAS as u32);
+        let (sign, size) = if ahead < BELOW {
+            ("", ahead)
+        } else {
+            ("-", ahead.wrapping_neg())
+        };
+        self.push(sign);
+        self.push(Buffer::new().format(size));
         self.push(behind);
+    }
+
+    // What the line holds; one that a caller made longer than its room is cut there.
+    #[tactic(auto, using(crate::proofs::text::Written::within_room))]
+    fn text(&self) -> &[u8]
+        ensures { (result.now ≡ text_of self.now) × (length result.now ≤ line_room) }
+    {
+        &self.bytes[..self.length.min(Out::ROOM)]
     }
 
     // The line goes into a buffer behind what is there; the place behind it.
@@ -59,7 +78,7 @@ impl Out {
         requires { used + line_room ≤ length out.old }
         ensures { Wrote (text_of self.now) used out.old result out.new }
     {
-        let text = self.text.as_bytes();
+        let text = self.text();
         let end = used + text.len();
         out[used..end].copy_from_slice(text);
         end
