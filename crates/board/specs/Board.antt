@@ -5,6 +5,7 @@ use Rattle.track.specs.declared.Ticks.{Ticks}
 use Rattle.track.specs.Rule.{clock_end, Sound, sound_test, new_track, event_most}
 use Rattle.track.specs.Follow.{follows, Follower, follower_test}
 use Rattle.board.specs.declared.Board.{Board}
+use Rattle.board.specs.declared.parts.Parts.{Parts}
 use Rattle.board.specs.declared.points.Points.{Points}
 use Rattle.board.specs.declared.points.Point.{Point}
 use Rattle.board.specs.Points.{point_most, ascending_from, keys_of, point_of, no_points, track_count}
@@ -166,3 +167,7 @@ board_of tracks present keys infos count clock held =
       clock = record { 0 = clock };
       held = held;
     }
+
+-- a board of its parts, as a caller lends the rows
+abbrev pub board_by : Parts → Board
+board_by p = board_of p.tracks p.present p.keys.now p.infos.now p.count p.clock.0 p.held

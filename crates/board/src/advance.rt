@@ -1,6 +1,6 @@
 // Advance: the ticks of a board that keeps its rules, and the call on any board, count and log.
 ghost use Rattle.std.specs.Prelude.{◌≡◌, true, ◌≤◌, length};
-ghost use Rattle.board.specs.Board.{unbroken_test};
+ghost use Rattle.board.specs.Board.{unbroken_test, board_by};
 ghost use Rattle.board.specs.Log.{capacity};
 ghost use Rattle.board.specs.Call.{world, Gives, does, advanced_said};
 ghost use Rattle.board.specs.Advance.{TakesTicks, Proceeds, board_left};
@@ -12,6 +12,7 @@ use crate::call::Advanced;
 use crate::follow::{followers, judge_bands};
 use crate::log::Record;
 use crate::members::Members;
+use crate::parts::Parts;
 use crate::points::Points;
 use crate::quiet::Playing;
 use crate::stage::{Reached, Staged};
@@ -184,8 +185,8 @@ pub struct Progress {
     pub board: Board,
 }
 
-// Advances a board that is lent.
-pub fn proceed(b: &Board, count: i64, log: &mut [u8]) -> Left
+// An advance of a board that is lent.
+fn proceed_lent(b: &Board, count: i64, log: &mut [u8]) -> Left
     ensures { Proceeds count b.now log.old result log.new }
 {
     if !b.unbroken() {
@@ -201,11 +202,35 @@ pub fn proceed(b: &Board, count: i64, log: &mut [u8]) -> Left
     run(b, Ticks(ticks), log)
 }
 
+impl Board {
+    // Advances a board that is lent. The work is a function of this module, so that its proof stands with those of the ticks.
+    pub fn proceed(&self, count: i64, log: &mut [u8]) -> Left
+        ensures { Proceeds count self.now log.old result log.new }
+    {
+        proceed_lent(self, count, log)
+    }
+}
+
+// Advances a board that is given by its parts. Rows of another length make a broken board.
+pub fn proceed(parts: Parts<'_>, count: i64, log: &mut [u8]) -> Left
+    ensures { Proceeds count (board_by parts.entry) log.old result log.new }
+{
+    match Board::try_from(parts) {
+        Ok(b) => b.proceed(count, log),
+        Err(refusal) => Left {
+            answer: Advanced::Refused(refusal),
+            tracks: parts.tracks,
+            clock: parts.clock,
+            held: parts.held as usize,
+        },
+    }
+}
+
 // Advances by a count of ticks, 0 to 4,294,967,295.
 pub fn advance(mut board: Board, count: i64, log: &mut [u8]) -> Progress
     ensures { Gives (does (call.Advance count) (world board log.old)) (advanced_said result.answer) result.board log.new }
 {
-    let left = proceed(&board, count, log);
+    let left = board.proceed(count, log);
     left.store(&mut board);
     Progress {
         answer: left.answer,

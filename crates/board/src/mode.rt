@@ -1,5 +1,7 @@
-// The mode calls, with the log: by number, on a board that is lent and on one that is given; then play, pause, resume and stop.
+// The mode calls, with the log: by number, on a board that is lent, by its parts and on one that is given; then play, pause, resume
+// and stop.
 ghost use Rattle.std.specs.Prelude.{◌≡◌, ◌<◌};
+ghost use Rattle.board.specs.Board.{board_by};
 ghost use Rattle.board.specs.Mode.{changed_by};
 ghost use Rattle.board.specs.Points.{track_count};
 ghost use Rattle.board.specs.Call.{GivesAs, does, mode_does, ChangesMode, world};
@@ -7,6 +9,7 @@ ghost use Rattle.board.specs.declared.call.Call.TheVariants.{Play, Pause, Resume
 
 use crate::Board;
 use crate::log::{Record, put_record};
+use crate::parts::Parts;
 use crate::tick::change_record;
 use track::Track;
 use track::grid::grid;
@@ -32,45 +35,59 @@ impl ModeChange {
     }
 }
 
-// The call on a board that stays as it is.
-pub fn change_mode(b: &Board, track: i64, call: u8, log: &mut [u8]) -> Result<ModeChange, Refusal>
-    ensures { ChangesMode call track b.now log.old result log.new }
-{
-    b.checked()?;
-    let held = b.held;
-    let capacity = (log.len() / Record::WIDTH) as u64;
-    if capacity < held {
-        return Err(Refusal::Capacity);
-    }
-    let at = b.found(track)? as usize;
-    let t = b.tracks[at];
-    let mode = t.mode;
-    let new = grid(mode, call).ok_or(Refusal::Mode)?;
-    let after = t.entered(new);
-    let valid = ValidTrack { track: t };
-    let Some(r) = change_record(b.clock, at as u8, valid, new, t.position, t.passes) else {
-        return Ok(ModeChange {
+impl Board {
+    // The call on a board that stays as it is.
+    pub fn change_mode(&self, track: i64, call: u8, log: &mut [u8]) -> Result<ModeChange, Refusal>
+        ensures { ChangesMode call track self.now log.old result log.new }
+    {
+        self.checked()?;
+        let held = self.held;
+        let capacity = (log.len() / Record::WIDTH) as u64;
+        if capacity < held {
+            return Err(Refusal::Capacity);
+        }
+        let at = self.found(track)? as usize;
+        let t = self.tracks[at];
+        let mode = t.mode;
+        let new = grid(mode, call).ok_or(Refusal::Mode)?;
+        let after = t.entered(new);
+        let valid = ValidTrack { track: t };
+        let Some(r) = change_record(self.clock, at as u8, valid, new, t.position, t.passes) else {
+            return Ok(ModeChange {
+                at,
+                track: after,
+                held,
+            });
+        };
+        if capacity <= held {
+            return Err(Refusal::Room);
+        }
+        put_record(r, log, held as usize * Record::WIDTH);
+        Ok(ModeChange {
             at,
             track: after,
-            held,
-        });
-    };
-    if capacity <= held {
-        return Err(Refusal::Room);
+            held: held + 1,
+        })
     }
-    put_record(r, log, held as usize * Record::WIDTH);
-    Ok(ModeChange {
-        at,
-        track: after,
-        held: held + 1,
-    })
+}
+
+// The call on a board that is given by its parts. Rows of another length make a broken board.
+pub fn change_mode(
+    parts: Parts<'_>,
+    track: i64,
+    call: u8,
+    log: &mut [u8],
+) -> Result<ModeChange, Refusal>
+    ensures { ChangesMode call track (board_by parts.entry) log.old result log.new }
+{
+    Board::try_from(parts)?.change_mode(track, call, log)
 }
 
 // The call on a board.
 fn mode_call(mut b: Board, track: i64, call: u8, log: &mut [u8]) -> Result<Board, Refusal>
     ensures { GivesAs (mode_does call track (world b log.old)) b result log.new }
 {
-    change_mode(&b, track, call, log)?.store(&mut b);
+    b.change_mode(track, call, log)?.store(&mut b);
     Ok(b)
 }
 

@@ -1,6 +1,6 @@
 // A board from its parts, as a caller may hold them: the rows of its points may have any length.
 ghost use Rattle.std.specs.Prelude.{◌≡◌, cond, Ok, Err};
-ghost use Rattle.board.specs.Board.{board_of, rows_whole};
+ghost use Rattle.board.specs.Board.{board_by, rows_whole};
 ghost use Rattle.track.specs.declared.refusal.Refusal.TheVariants.{Value};
 
 use crate::Board;
@@ -26,7 +26,7 @@ impl<'a> TryFrom<Parts<'a>> for Board {
     type Error = Refusal;
 
     ghost try_from_gives = { λ p r. r ≡ cond (rows_whole p.keys.now p.infos.now)
-        (Ok (board_of p.tracks p.present p.keys.now p.infos.now p.count p.clock.0 p.held)) (Err Value) };
+        (Ok (board_by p)) (Err Value) };
 
     fn try_from(parts: Parts<'a>) -> Result<Board, Refusal> {
         let (Ok(keys), Ok(infos)) = (parts.keys.try_into(), parts.infos.try_into()) else {

@@ -9,8 +9,6 @@ ghost use Rattle.board.specs.declared.call.Call.TheVariants as call;
 ghost use Rattle.firmware.specs.Numbers.{number_said, ending_said};
 
 use board::Board;
-use board::advance::proceed;
-use board::mode::change_mode;
 use value::Ending;
 
 pub mod door;
@@ -28,7 +26,7 @@ pub extern "C" fn gridstep_new() -> Board
 fn mode_call(b: &mut Board, track: i64, call: u8, log: &mut [u8]) -> u32
     ensures { Gives (mode_does call track (world b.old log.old)) (number_said result) b.new log.new }
 {
-    match change_mode(b, track, call, log) {
+    match b.change_mode(track, call, log) {
         Ok(change) => {
             change.store(b);
             0
@@ -74,7 +72,7 @@ pub extern "C" fn gridstep_stop(b: &mut Board, track: i64, log: &mut [u8]) -> u3
 pub extern "C" fn gridstep_advance(b: &mut Board, count: i64, log: &mut [u8]) -> Ending
     ensures { Gives (does (call.Advance count) (world b.old log.old)) (ending_said result) b.new log.new }
 {
-    let left = proceed(b, count, log);
+    let left = b.proceed(count, log);
     left.store(b);
     Ending::from(left.answer)
 }
