@@ -94,6 +94,10 @@ pub(crate) fn change_record(
     ensures { listed result ≡ change_records clock.0 track t.track new l.0 passes.0 }
 {
     let mode = t.track.mode;
+    // Most steps keep the mode: to look up no cell there spares each of them a copy of the cells.
+    if mode == new {
+        return None;
+    }
     let event = t.track.action(mode, new);
     if event == 0 {
         return None;

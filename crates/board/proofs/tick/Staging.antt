@@ -110,6 +110,10 @@ cell-none t v (suc (suc zero)) h = v.cells.paused
 cell-none t v (suc (suc (suc zero))) h = v.cells.waiting
 cell-none t v (suc (suc (suc (suc m)))) h = absurd (omega arith)
 
+pub change-same : (clock track : ℕ) (t : Track) (new l passes : ℕ) → Valid t → t.mode ≡ new → change_records clock track t new l passes ≡ []
+change-same clock track t new l passes v e =
+    change-none clock track t new l passes refl (ap (action_cell t t.mode) (sym e) ∙ cell-none t v t.mode v.mode)
+
 -- at most one
 pub change-most : (clock track : ℕ) (t : Track) (new l passes : ℕ) → length (change_records clock track t new l passes) ≤ 1
 unfolding change_records
