@@ -114,10 +114,13 @@ abbrev pub answered : Answer → Reply
 answered answer.Accepted = accepted
 answered (answer.Refused n) = refused n
 
--- what a result says: its value by f, or the refusal's number
+-- what a result says: its value by f, or the refusal's number, given by number
+abbrev pub said_with : {R A : Type 0} → (R → ℕ) → (A → Reply) → Result A R → Reply
+said_with number f (Ok x) = f x
+said_with number f (Err e) = refused (number e)
+
 abbrev pub said_by : {A : Type 0} → (A → Reply) → Result A Refusal → Reply
-said_by f (Ok x) = f x
-said_by f (Err e) = refused (number_of e)
+said_by = said_with number_of
 
 abbrev pub clock_said : Result (Ticks × ℕ) Refusal → Reply
 clock_said = said_by (λ r. clock_is r.0.0 r.1)
@@ -388,5 +391,9 @@ told_as (told.Track t) = track_is (track_values t)
 told_as (told.Point p) = point_is (point_values p)
 told_as (told.Count n) = count_is n
 
+-- the reply, a refusal's number given by number
+abbrev pub reply_by : {R : Type 0} → (R → ℕ) → Result Told R → Reply
+reply_by number = said_with number told_as
+
 abbrev pub reply_of : Result Told Refusal → Reply
-reply_of = said_by told_as
+reply_of = reply_by number_of

@@ -30,10 +30,13 @@ refused n b = record { answer = Refused n; board = b }
 abbrev pub accepted : Board → Outcome
 accepted b = record { answer = Accepted; board = b }
 
--- what the result of a call on a board says: the board after it, or why it is refused
+-- what the result of a call on a board says, a refusal's number given by number: the board after it, or why it is refused
+abbrev pub outcome_by : {R : Type 0} → (R → ℕ) → Board → Result Board R → Outcome
+outcome_by number b (Ok c) = accepted c
+outcome_by number b (Err e) = refused (number e) b
+
 abbrev pub outcome : Board → Result Board Refusal → Outcome
-outcome b (Ok c) = accepted c
-outcome b (Err e) = refused (number_of e) b
+outcome = outcome_by number_of
 
 -- the board with other tracks, another word of those present, other points or another number of records held
 abbrev pub board_with : Board → List Track → ℕ → Points → ℕ → Board

@@ -1,27 +1,27 @@
 // One call on a board and its log.
 ghost use Rattle.std.specs.Prelude.{◌≡◌};
 ghost use Rattle.board.specs.Call.{Gives, does, world, answered, advanced_said, clock_said, track_said, point_said, count_said, reply_of, pair_numbers};
-ghost use Rattle.board.specs.Apply.{Says};
-ghost use Rattle.board.specs.Setup.{outcome, set_master};
+ghost use Rattle.board.specs.Apply.{Says, SaysBy};
+ghost use Rattle.board.specs.Setup.{outcome, outcome_by, set_master};
 
 use crate::Board;
 use crate::advance::{Progress, advance};
 use crate::call::{Advanced, Call, Pairs, Told};
 use crate::mode::{pause, play, resume, stop};
 use crate::points::Point;
-use track::refusal::Refusal;
+use track::refusal::{Numbered, Refusal};
 use track::{Ticks, Track};
 
-// What a call tells, or why it is refused, and the board after it.
+// What a call tells, or why it is refused, and the board after it. A caller may have numbers of its own for refusals.
 #[derive(Clone, Copy)]
-pub struct Applied {
-    pub told: Result<Told, Refusal>,
+pub struct Applied<R = Refusal> {
+    pub told: Result<Told, R>,
     pub board: Board,
 }
 
 // A call that gives a board, or is refused and leaves the one that it was lent.
-pub fn accepted(lent: Board, given: Result<Board, Refusal>) -> Applied
-    ensures { Says (answered (outcome lent given).answer) (outcome lent given).board result }
+pub fn accepted<R: Numbered>(lent: Board, given: Result<Board, R>) -> Applied<R>
+    ensures { SaysBy R.number (answered (outcome_by R.number lent given).answer) (outcome_by R.number lent given).board result }
 {
     match given {
         Ok(board) => Applied {

@@ -3,7 +3,7 @@ ghost use Rattle.std.specs.Prelude.{◌≡◌, ◌+◌, ◌≤◌, length, take,
 ghost use Rattle.board.specs.Row.{call_at, padded, track_numbers, point_numbers, numbers_of, row_does, reply_width};
 ghost use Rattle.board.specs.Row.{pairs_in, master_in, plain_at, RowAnswered};
 ghost use Rattle.board.specs.Log.{write_at};
-ghost use Rattle.board.specs.Call.{track_values, point_values, reply_of, Gives, world};
+ghost use Rattle.board.specs.Call.{track_values, point_values, reply_of, reply_by, Gives, world};
 
 use crate::Board;
 use crate::apply::{Applied, apply};
@@ -11,7 +11,7 @@ use crate::call::{Call, Pairs, PointNumbers, Told};
 use crate::points::Point;
 use track::Track;
 use track::number::capped;
-use track::refusal::Refusal;
+use track::refusal::{Numbered, Refusal};
 use track::setup::Change;
 
 // The code of a master call, which only a row has. C writes the rows: their codes are numbers.
@@ -196,11 +196,11 @@ fn track_row(t: Track) -> [u64; REPLY_WIDTH]
 }
 
 // The numbers of a reply, its kind first. C reads the rows: kinds are numbers.
-pub fn reply_row(told: Result<Told, Refusal>) -> [u64; REPLY_WIDTH]
-    ensures { result ≡ numbers_of (reply_of told) }
+pub fn reply_row<R: Numbered>(told: Result<Told, R>) -> [u64; REPLY_WIDTH]
+    ensures { result ≡ numbers_of (reply_by R.number told) }
 {
     match told {
-        Err(refusal) => padded(&[1, refusal as u64]),
+        Err(refusal) => padded(&[1, u64::from(refusal.number())]),
         Ok(Told::Accepted) => padded(&[0]),
         Ok(Told::Done(n)) => padded(&[2, u64::from(n.0)]),
         Ok(Told::LogFull(n)) => padded(&[3, u64::from(n.0)]),

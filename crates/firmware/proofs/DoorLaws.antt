@@ -3,6 +3,7 @@ use Prim.Native.Nat.{ℕ}
 use mathlib.Core.Path.{◌≡◌, refl, ap, ◌∙◌}
 use mathlib.Core.List.{List}
 use lib.IntN.{ℤ}
+use Rattle.track.specs.declared.refusal.Refusal.{Refusal}
 use Rattle.board.specs.declared.Board.{Board}
 use Rattle.board.specs.Setup.{Outcome}
 use Rattle.board.specs.declared.apply.Applied.{Applied}
@@ -13,7 +14,7 @@ use Rattle.board.specs.Row.{numbers_of}
 use Rattle.firmware.specs.Door.{MasterGives}
 
 -- a master call with any numbers
-pub door-masters : (track master : ℤ) (zs : List ℤ) (b : Board) (o : Outcome) (r : Applied) (reply : List ℕ) →
+pub door-masters : (track master : ℤ) (zs : List ℤ) (b : Board) (o : Outcome) (r : Applied Refusal) (reply : List ℕ) →
     o ≡ set_master b track master zs → Says (answered o.answer) o.board r → reply ≡ numbers_of (reply_of r.told) →
     MasterGives track master zs b (record { board = r.board; reply = reply })
 unfolding master_does

@@ -1,6 +1,6 @@
 // The lines that the runner prints (01, "Script lines").
 ghost use Rattle.std.specs.Prelude.{◌≡◌};
-ghost use Rattle.board.specs.Call.{reply_of};
+ghost use Rattle.board.specs.Call.{reply_by};
 ghost use Rattle.script.specs.Output.{refused_line, short_line, end_line, record_line, note_of, unpacked_line, Shows};
 ghost use Rattle.script.specs.Text.{text_of};
 ghost use Rattle.board.specs.Log.{record_values, unpack_of};
@@ -9,7 +9,7 @@ use crate::text::Out;
 use board::call::Told;
 use board::log::{Record, unpack};
 use track::Ticks;
-use track::refusal::Refusal;
+use track::refusal::Numbered;
 
 // The number of a refusal stays a `u8`: a `Refusal` would ask more of callers.
 pub fn refused_line(line: u64, number: u8) -> Out
@@ -63,11 +63,11 @@ pub fn record_line(r: Record) -> Out
 }
 
 // What is printed of a line's answer: a refusal, or an advance that stopped short.
-pub fn note(line: u64, told: Result<Told, Refusal>) -> Out
-    ensures { text_of result ≡ note_of line (reply_of told) }
+pub fn note<R: Numbered>(line: u64, told: Result<Told, R>) -> Out
+    ensures { text_of result ≡ note_of line (reply_by R.number told) }
 {
     match told {
-        Err(refusal) => refused_line(line, u8::from(refusal)),
+        Err(refusal) => refused_line(line, refusal.number()),
         Ok(Told::LogFull(n)) => short_line(line, n, LOG_FULL),
         Ok(Told::ClockEnd(n)) => short_line(line, n, CLOCK_END),
         Ok(_) => Out::new(),

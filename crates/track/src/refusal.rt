@@ -1,4 +1,5 @@
 // The refusals of calls, and their numbers (01, "Turned down").
+ghost use Rattle.std.specs.Prelude.{◌≡◌, ℕ};
 
 // Why a call is refused, by 01's number.
 #[derive(Clone, Copy, Debug, PartialEq, Eq)]
@@ -28,12 +29,37 @@ pub enum Refusal {
 }
 
 impl From<Refusal> for u8 {
-    ghost use Rattle.std.specs.Prelude.{◌≡◌};
     ghost use Rattle.track.specs.Refusal.{number_of};
 
     ghost from_gives = { λ r n. n ≡ number_of r };
 
     fn from(refusal: Refusal) -> u8 {
         refusal as u8
+    }
+}
+
+// What stands for a refusal where one is told: a `Refusal`, or any number, since the enum alone would ask more of callers.
+pub trait Numbered: Copy {
+    ghost number: { Self → ℕ };
+
+    fn number(self) -> u8
+        ensures { result ≡ number self };
+}
+
+impl Numbered for Refusal {
+    ghost use Rattle.track.specs.Refusal.{number_of};
+
+    ghost number = { number_of };
+
+    fn number(self) -> u8 {
+        u8::from(self)
+    }
+}
+
+impl Numbered for u8 {
+    ghost number = { λ n. n };
+
+    fn number(self) -> u8 {
+        self
     }
 }

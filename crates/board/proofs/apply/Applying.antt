@@ -8,6 +8,7 @@ use mir.Facts.{to_z-of_z}
 use mir.Syntax.{w64}
 use mir.Val.{hbits}
 use Rattle.track.proofs.Numbers.{back}
+use Rattle.track.specs.declared.refusal.Refusal.{Refusal}
 use Rattle.board.specs.declared.Board.{Board}
 use Rattle.board.specs.declared.call.Call.{Call}
 use Rattle.board.specs.Call.{Reply, does, Gives, reply_of}
@@ -20,7 +21,7 @@ pub passed : (z : ℤ) → mag z < 2 ^ hbits w64 → z ≡ back z
 passed z h = sym (to_z-of_z {w = w64} (record { sfits = h }))
 
 -- what the call at hand gives, told
-pub applied : (w : World Board) {c k : Call} {a : Reply} {b : Board} {log : List ℕ} {r : Applied} → c ≡ k → Gives (does k w) a b log → Says a b r →
+pub applied : (w : World Board) {c k : Call} {a : Reply} {b : Board} {log : List ℕ} {r : Applied Refusal} → c ≡ k → Gives (does k w) a b log → Says a b r →
     Gives (does c w) (reply_of r.told) r.board log
 applied w {log = log} {r = r} e g s =
     subst⁻¹ (λ (c : Call). Gives (does c w) (reply_of r.told) r.board log) e
