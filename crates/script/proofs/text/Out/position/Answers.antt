@@ -7,5 +7,6 @@ use Rattle.script.proofs.text.Out.position.Goals as goal
 pub returns : goal.returns
 returns c =
     elim c.if-ahead-lt-BELOW.branch [
-      then-ahead-lt-BELOW w ↦ grind (arith, common_steps, ahead_is, append_assoc)
-    | else-ahead-lt-BELOW w ↦ grind (arith, common_steps, below_is, append_assoc) ]
+      | then-ahead-lt-BELOW w ↦ grind (arith, common_steps, ahead_is, append_assoc)
+      | else-ahead-lt-BELOW w ↦ grind (arith, common_steps, below_is, append_assoc)
+    ]
