@@ -1,2 +1,3 @@
 pub mod Written
 pub mod Numbers
+pub mod Ascii
