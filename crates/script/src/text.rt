@@ -9,7 +9,8 @@ use track::Coordinate;
 // Four bytes from here on stand for a position below zero.
 const BELOW: u32 = 1 << 31;
 
-// A line of output: any bytes, as a caller may have them. `ArrayString` is UTF-8, `ArrayVec` is not `Copy`, and no clause says that `write!` succeeds.
+// A line of output: any bytes, as a caller may have them. Each that this crate hands out is ASCII and shorter than the room (laws in
+// proofs/output/Ascii and proofs/run/Ascii). `ArrayString` is UTF-8, `ArrayVec` is not `Copy`, and no clause says that `write!` succeeds.
 #[derive(Clone, Copy)]
 pub struct Out {
     pub length: usize,
