@@ -1,4 +1,4 @@
--- Each line that is printed is ASCII, and shorter than a line's room.
+-- Each line that this crate hands out is ASCII, and shorter than a line's room.
 use Prim.Native.Nat.{ℕ, suc, ◌+◌, ◌*◌}
 use mathlib.Core.List.{[], ◌∷◌, ◌++◌}
 use native.Mathlib.Omega.{arith}
@@ -9,7 +9,7 @@ use Rattle.script.specs.Text.{digits_most, signed, number_then}
 use Rattle.script.specs.Output.{refused_line, short_line, end_line, record_head, record_line, note_of}
 use Rattle.script.proofs.text.Ascii.{AsciiWithin, ascii-more, ascii-none, ascii-byte, ascii-append, signed-ascii, number-ascii}
 
--- the bytes of such a line, at most: a record has seven numbers, each with its sign or the byte behind it, and the comma behind its position
+-- the bytes of a line that is handed out, at most: a record has seven numbers, each with its sign or the byte behind it, and the comma behind its position
 abbrev pub printed_most : ℕ
 printed_most = 7 * suc digits_most + 1
 

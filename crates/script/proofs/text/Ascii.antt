@@ -1,19 +1,17 @@
--- Numbers are written in ASCII, so that a caller may take them for a `str`, and in so many bytes at most.
+-- Numbers are written in ASCII, so that a caller may take them for a `str`: in digits_most bytes at most, one more with a sign before or a byte behind.
 use Prim.Native.Nat.{ℕ, zero, suc, ◌+◌, ◌/◌, ◌%◌, ◌≤◌, ◌<◌}
 use Rattle.std.specs.Prelude.{IsAscii}
 use Rattle.std.proofs.lemmas.Str.{IsAscii-append}
 use Rattle.std.proofs.lemmas.Str.Ascii.{IsAscii-nil, IsAscii-cons}
-use mathlib.Core.Path.{◌≡◌}
 use mathlib.Core.List.{List, [], ◌∷◌, ◌++◌}
 use native.Mathlib.Omega.{arith}
 use lib.Dec.{ltb}
 use lib.IntN.{ℤ, pos, negsuc}
-use lib.ListN.{length, length-append, length-take}
+use lib.ListN.{length, length-append}
 use borrow.Author.Tests.{ltb-true}
 use Rattle.track.proofs.Tests.{cond_cases}
 use Rattle.script.specs.Bytes.{minus, digit_zero}
-use Rattle.script.specs.Text.{digits_then, digits_most, decimal, signed, number_then, line_room, text_of}
-use Rattle.script.specs.declared.text.Out.{Out}
+use Rattle.script.specs.Text.{digits_then, digits_most, decimal, signed, number_then}
 
 -- ASCII bytes, so many at most
 pub record AsciiWithin (most : ℕ) (text : List ℕ) : Type 0 where
@@ -53,9 +51,3 @@ signed-ascii (negsuc n) = ascii-byte minus (omega arith) (decimal-ascii (suc n))
 -- a number and an ASCII byte behind it
 pub number-ascii : (n b : ℕ) → b < 128 → AsciiWithin (suc digits_most) (number_then n b)
 number-ascii n b h = ascii-append (decimal n) (b ∷ []) (decimal-ascii n) (ascii-byte b h ascii-none)
-
--- ---- a line
-
--- the length of a line that does not fill its room is that of its text, so that a caller may take its bytes up to there
-pub length-is-text : (o : Out) → length o.bytes ≡ line_room → length (text_of o) < line_room → o.length ≡ length (text_of o)
-length-is-text o e h = omega (arith, length-take o.length o.bytes, e, h)
